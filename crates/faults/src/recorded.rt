@@ -1,0 +1,71 @@
+// The fault of a record's command: the command's own, or that of the call it makes.
+ghost use mathlib.Core.Path.{_≡_};
+ghost use Rattle.faults.specs.declared.recorded.RecordFault.the-variants.{Sheet, Question, Reading};
+ghost use Rattle.faults.specs.Numbers as numbers;
+use crate::layer::Layer;
+use crate::question::QuestionFault;
+use crate::reading::ReadFault;
+use crate::sheet::SheetFault;
+
+#[derive(Clone, Copy)]
+pub enum RecordFault {
+    Sheet(SheetFault),
+    Question(QuestionFault),
+    Reading(ReadFault),
+}
+
+pub impl From<SheetFault> for RecordFault as RecordFromSheet {
+    ghost converts = { λ f r. r ≡ Sheet f };
+
+    fn from(fault: SheetFault) -> RecordFault {
+        RecordFault::Sheet(fault)
+    }
+}
+
+pub impl From<QuestionFault> for RecordFault as RecordFromQuestion {
+    ghost converts = { λ f r. r ≡ Question f };
+
+    fn from(fault: QuestionFault) -> RecordFault {
+        RecordFault::Question(fault)
+    }
+}
+
+pub impl From<ReadFault> for RecordFault as RecordFromRead {
+    ghost converts = { λ f r. r ≡ Reading f };
+
+    fn from(fault: ReadFault) -> RecordFault {
+        RecordFault::Reading(fault)
+    }
+}
+
+impl RecordFault {
+    pub fn number(self) -> u8
+        ensures { λ r. ⌜ r ≡ numbers.number self ⌝ }
+    {
+        match self {
+            RecordFault::Sheet(fault) => fault.number(),
+            RecordFault::Question(fault) => fault.number(),
+            RecordFault::Reading(fault) => fault.number(),
+        }
+    }
+
+    pub fn layer(self) -> Layer
+        ensures { λ r. ⌜ r ≡ numbers.layer self ⌝ }
+    {
+        match self {
+            RecordFault::Sheet(fault) => fault.layer(),
+            RecordFault::Question(_) => Layer::Question,
+            RecordFault::Reading(_) => Layer::Record,
+        }
+    }
+
+    // The slot of the refused call, where it names one.
+    pub fn slot(self) -> Option<u8>
+        ensures { λ r. ⌜ r ≡ numbers.slot self ⌝ }
+    {
+        match self {
+            RecordFault::Sheet(fault) => fault.slot,
+            _ => None,
+        }
+    }
+}

@@ -1,0 +1,5 @@
+mod FloatValues
+mod Sixteenths
+mod FromSixteenths
+mod Meaning
+mod Laws

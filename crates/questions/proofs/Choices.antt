@@ -1,0 +1,84 @@
+-- The factored sum by load types, and the extremes from each type's least and greatest product.
+use mathlib.Core.Path.{_≡_, refl, sym, ap, _∙_, subst}
+use mathlib.Core.Bool.{Bool, true, false, cond}
+use mathlib.Core.List.{List, [], _∷_}
+use Prim.Native.Nat.{ℕ, _*_, _≤_}
+use native.Mathlib.Omega.{arith}
+use lib.IntN.{ℤ, pos, negsuc, _+ℤ_, _*ℤ_}
+use lib.Signed.{_≤ℤ_}
+use borrow.Author.Differences.{ints, sum-is}
+use lib.Dec.{eqb}
+use Rattle.std.specs.declared.option.Option.{Option}
+use Rattle.std.specs.declared.option.Option.the-variants.{Some, None}
+use Rattle.loads.specs.declared.load_type.LoadType.{LoadType}
+use Rattle.loads.specs.declared.load_type.LoadType.the-variants.{Dc, Dw, Ll, Ws}
+use Rattle.loads.specs.declared.kind.EffectKind.{EffectKind}
+use Rattle.loads.specs.Factors.{index, range, Lawful}
+use Rattle.loads.specs.Kinds.{same-kind}
+use Rattle.sheet.specs.declared.row.Row.{Row}
+use Rattle.sheet.specs.Totals.{total, adds, type-sum}
+use Rattle.questions.specs.Extremes.{Choice, Chosen, times, factored-slot, factored, Extremes, least, greatest}
+use Rattle.questions.proofs.Products.{least-below, greatest-above, low-factor, high-factor, low-factor-meets, high-factor-meets, low-factor-within, high-factor-within}
+
+-- the four load types added
+abbrev pub four : (LoadType → ℤ) → ℤ
+four f = f Dc +ℤ f Dw +ℤ f Ll +ℤ f Ws
+
+four-ap : (f g : LoadType → ℤ) → ((t : LoadType) → f t ≡ g t) → four f ≡ four g
+four-ap f g e = λ i. e Dc i +ℤ e Dw i +ℤ e Ll i +ℤ e Ws i
+
+four-le : (f g : LoadType → ℤ) → ((t : LoadType) → f t ≤ℤ g t) → four f ≤ℤ four g
+four-le f g h = let a = h Dc in let b = h Dw in let c = h Ll in let d = h Ws in omega (arith, ints)
+
+times-add : (n : ℕ) (a b : ℤ) → times n (a +ℤ b) ≡ times n a +ℤ times n b
+times-add n a b = omega (arith, ints, ap (λ (x : ℕ). n * x) (sum-is a b))
+
+-- a slot's share is one type's
+slot-by-types : (c : Choice) (k : EffectKind) (o : Option Row) → factored-slot c k o ≡ four (λ t. times (c t) (adds t k o))
+slot-by-types c k None = omega (arith, ints)
+slot-by-types c k (Some r) = go (r .load) (same-kind (r .kind) k) (r .sixteenths)
+  where
+    go : (u : LoadType) (b : Bool) (z : ℤ) → cond b (times (c u) z) (pos 0) ≡ four (λ t. times (c t) (cond (eqb (index u) (index t)) (cond b z (pos 0)) (pos 0)))
+    go Dc true z = omega (arith, ints)
+    go Dw true z = omega (arith, ints)
+    go Ll true z = omega (arith, ints)
+    go Ws true z = omega (arith, ints)
+    go Dc false z = omega (arith, ints)
+    go Dw false z = omega (arith, ints)
+    go Ll false z = omega (arith, ints)
+    go Ws false z = omega (arith, ints)
+
+four-add : (f g : LoadType → ℤ) → four (λ t. f t +ℤ g t) ≡ four f +ℤ four g
+four-add f g = omega (arith, ints)
+
+-- one factor for a type's rows is a factor for its sum
+pub by-types : (c : Choice) (k : EffectKind) (rows : List (Option Row)) → factored c k rows ≡ four (λ t. times (c t) (type-sum t k rows))
+by-types c k [] = omega (arith, ints)
+by-types c k (o ∷ rows) =
+    (λ i. slot-by-types c k o i +ℤ by-types c k rows i)
+    ∙ sym (four-add (λ t. times (c t) (adds t k o)) (λ t. times (c t) (type-sum t k rows)))
+    ∙ four-ap _ _ (λ t. sym (times-add (c t) (adds t k o) (type-sum t k rows)))
+
+-- the extremes are the four types' least and greatest products added
+pub extremes-are : (fs : List (ℕ × ℕ)) (k : EffectKind) (rows : List (Option Row)) → Lawful fs →
+    Extremes fs k rows (four (λ t. least (range fs t) (type-sum t k rows))) (four (λ t. greatest (range fs t) (type-sum t k rows)))
+extremes-are fs k rows lawful = record {
+  between = λ c chosen. (
+    subst (λ (z : ℤ). four (λ t. least (range fs t) (type-sum t k rows)) ≤ℤ z) (sym (by-types c k rows)) (four-le _ _ (λ t. least-below (range fs t) (type-sum t k rows) (c t) (chosen t .0) (chosen t .1))),
+    subst (λ (z : ℤ). z ≤ℤ four (λ t. greatest (range fs t) (type-sum t k rows))) (sym (by-types c k rows)) (four-le _ _ (λ t. greatest-above (range fs t) (type-sum t k rows) (c t) (chosen t .0) (chosen t .1))),
+  );
+  low-met = (
+    (λ t. low-factor (range fs t) (type-sum t k rows)),
+    (λ t. low-factor-within (range fs t) (type-sum t k rows) (lawful t)),
+    by-types _ k rows ∙ four-ap _ _ (λ t. low-factor-meets (range fs t) (type-sum t k rows)),
+  );
+  high-met = (
+    (λ t. high-factor (range fs t) (type-sum t k rows)),
+    (λ t. high-factor-within (range fs t) (type-sum t k rows) (lawful t)),
+    by-types _ k rows ∙ four-ap _ _ (λ t. high-factor-meets (range fs t) (type-sum t k rows)),
+  );
+}
+
+pub extremes-from : (fs : List (ℕ × ℕ)) (k : EffectKind) (rows : List (Option Row)) (low high : ℤ) → Lawful fs →
+    low ≡ four (λ t. least (range fs t) (type-sum t k rows)) → high ≡ four (λ t. greatest (range fs t) (type-sum t k rows)) → Extremes fs k rows low high
+extremes-from fs k rows low high lawful p q = rw (p, q) (extremes-are fs k rows lawful)

@@ -1,0 +1,8 @@
+//! A sheet: what stands in the slots of one section, the changes to it, and their refusals.
+mod changes;
+mod held;
+mod row;
+mod rows;
+
+pub use held::Sheet;
+pub use row::Row;
