@@ -1,0 +1,15 @@
+-- `command::reading::read` meets its contract.
+use mathlib.Core.Path.{sym, ap, _∙_}
+use borrow.Author.Needs.{needs}
+use Rattle.command.specs.Bytes.{parsed}
+use Rattle.command.proofs.Taking.{begins}
+use Rattle.command.proofs.reading.read.Needs as need
+
+pub returns-in-4 : need.returns-in-4
+returns-in-4 c = c .read-enter .ensures ∙ sym (ap parsed (begins (c .args .bytes .now) 4 (search needs) (search needs)))
+
+pub returns-in-5 : need.returns-in-5
+returns-in-5 c = c .read-strike .ensures ∙ sym (ap parsed (begins (c .args .bytes .now) 5 (search needs) (search needs)))
+
+pub returns-in-6 : need.returns-in-6
+returns-in-6 c = c .read-extremes .ensures ∙ sym (ap parsed (begins (c .args .bytes .now) 6 (search needs) (search needs)))

@@ -1,0 +1,4 @@
+mod Writing
+mod Outcomes
+mod StepTests
+mod Following

@@ -1,0 +1,36 @@
+-- `record::transcripts::transcript` meets its contract.
+use mathlib.Core.Path.{_≡_, subst, sym, ap, _∙_}
+use mathlib.Core.List.{_++_}
+use lib.Chars.{codes}
+use native.Mathlib.Omega.{arith}
+use lib.ListN.{length}
+use Rattle.std.specs.Of.Vec.{vec-items}
+use Rattle.sheet.specs.Ledger.{ledger, blank}
+use Rattle.record.specs.Transcripts.{Reads, begun, step}
+use Rattle.record.proofs.Following.{forward, long, too-long-line, whole}
+use Rattle.record.proofs.transcripts.transcript.Needs as need
+
+pub returns-then-bytes-gt65536 : need.returns-then-bytes-gt65536
+returns-then-bytes-gt65536 c = long (c .args .bytes .now) (vec-items (c .extend-from-slice .last .self)) (c .if-bytes-gt65536 .taken)
+    (c .in-Continue-extend-from-slice .ensures tt .items ∙ ap (λ x. x ++ codes "fault at 0 record 20\n") (c .new-lines .ensures .items) ∙ sym too-long-line)
+
+pub loop-place-holds : need.loop-place-holds
+loop-place-holds c =
+    (omega arith,
+    subst (λ L. Reads (c .args .bytes .now) L 0 (vec-items (c .new-lines .result))) (sym (c .new-sheet .ensures))
+    (subst (Reads (c .args .bytes .now) blank 0) (sym (c .new-lines .ensures .items)) begun))
+
+pub loop-place-less : need.loop-place-less
+loop-place-less c =
+    let f = c .in-Continue-place .ensures tt in
+    let g = forward (ledger (c .loop-place .sheet)) (c .args .bytes .now) (c .loop-place .place) _ (c .in-Continue-place .place) (f .outcome) (c .loop-place-test .taken) (f .advances) in
+    omega arith
+
+pub loop-place-again : need.loop-place-again
+loop-place-again c =
+    let f = c .in-Continue-place .ensures tt in
+    let g = forward (ledger (c .loop-place .sheet)) (c .args .bytes .now) (c .loop-place .place) _ (c .in-Continue-place .place) (f .outcome) (c .loop-place-test .taken) (f .advances) in
+    (g .1, step _ (c .in-Continue-place .place) _ (c .loop-place .inv .1) (c .loop-place-test .taken) f)
+
+pub returns : need.returns
+returns c = let e : c .loop-place .place ≡ length (c .args .bytes .now) = omega arith in whole (c .args .bytes .now) (vec-items (c .loop-place .lines)) (ledger (c .loop-place .sheet)) (c .loop-place .place) (c .if-bytes-gt65536 .left) e (c .loop-place .inv .1)

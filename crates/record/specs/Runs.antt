@@ -1,0 +1,82 @@
+-- What one command brings: the ledger after it, and its line or its fault.
+use mathlib.Core.Path.{_≡_}
+use mathlib.Core.Logic.{_⊎_}
+use mathlib.Core.List.{List, [], _++_}
+use Prim.Native.Nat.{ℕ, _-_, _≤_, _<_}
+use lib.IntN.{ℤ}
+use lib.ListN.{length, getD, drop}
+use Rattle.std.specs.declared.result.Result.{Result}
+use Rattle.std.specs.declared.result.Result.the-variants.{Ok, Err}
+use Rattle.faults.specs.declared.reading.ReadFault.{ReadFault}
+use Rattle.faults.specs.declared.question.QuestionFault.the-variants.{UnknownState}
+use Rattle.faults.specs.declared.recorded.RecordFault.{RecordFault}
+use Rattle.faults.specs.declared.recorded.RecordFault.the-variants.{Sheet, Question, Reading}
+use Rattle.loads.specs.declared.load_type.LoadType.{LoadType}
+use Rattle.loads.specs.declared.kind.EffectKind.{EffectKind}
+use Rattle.loads.specs.Values.{judged-sixteenths}
+use Rattle.loads.specs.Factors.{states}
+use Rattle.sheet.specs.Ledger.{Ledger, Change, enter, strike, refusal, changed, Answers}
+use Rattle.questions.specs.Extremes as asked
+use Rattle.command.specs.declared.commands.Command.{Command}
+use Rattle.command.specs.declared.commands.Command.the-variants.{Enter, Strike, Extremes}
+use Rattle.record.specs.Lines.{extremes-line, Wrote}
+use Rattle.record.specs.Codes.{load-type, effect-kind}
+
+-- a command's line, [] where it prints none, or its fault
+abbrev pub Outcome : Type 0
+Outcome = Result (List ℕ) RecordFault
+
+-- refused with a fault of the record's own
+abbrev pub Refused : Ledger → ReadFault → Ledger → Outcome → Type 0
+Refused L f M o = (o ≡ Err (Reading f)) × (M ≡ L)
+
+-- a change to the sheet: accepted, it prints nothing; refused, it is the sheet's fault and nothing changes
+abbrev pub Changes : Ledger → Change → Ledger → Outcome → Type 0
+Changes L c M (Ok text) = Answers L c (Ok tt) × (M ≡ changed L c) × (text ≡ [])
+Changes L c M (Err (Sheet f)) = Answers L c (Err f) × (M ≡ L)
+Changes L c M (Err (Question f)) = ⊥
+Changes L c M (Err (Reading f)) = ⊥
+
+-- entering, with the codes read first
+abbrev pub Enters : Ledger → ℕ → Result LoadType ReadFault → Result EffectKind ReadFault → ℤ → Ledger → Outcome → Type 0
+Enters L s (Err f) k n M o = Refused L f M o
+Enters L s (Ok t) (Err f) n M o = Refused L f M o
+Enters L s (Ok t) (Ok k) n M o = Changes L (enter s t k (judged-sixteenths n)) M o
+
+-- the extremes of a published state, or its number is unknown
+abbrev pub Tells-extremes : Ledger → ℕ → EffectKind → Ledger → Outcome → Type 0
+Tells-extremes L n k M (Ok text) =
+    (1 ≤ n) × (n ≤ 9) × (M ≡ L)
+    × ((low : ℤ) × (high : ℤ) × asked.Extremes (getD states (n - 1) []) k (L .rows) low high × (text ≡ extremes-line low high))
+Tells-extremes L n k M (Err f) = ((n ≡ 0) ⊎ (9 < n)) × (f ≡ Question UnknownState) × (M ≡ L)
+
+abbrev pub Asks-extremes : Ledger → ℕ → Result EffectKind ReadFault → Ledger → Outcome → Type 0
+Asks-extremes L n (Err f) M o = Refused L f M o
+Asks-extremes L n (Ok k) M o = Tells-extremes L n k M o
+
+abbrev pub Runs : Ledger → Command → Ledger → Outcome → Type 0
+Runs L (Enter s t e n) M o = Enters L s (load-type t) (effect-kind e) n M o
+Runs L (Strike s) M o = Changes L (strike s) M o
+Runs L (Extremes n e) M o = Asks-extremes L n (effect-kind e) M o
+
+-- an outcome as a call returns it: the line's length, with the line at the front of the buffer and the rest untouched; of a fault, the buffer as it was
+abbrev pub Returns : List ℕ → Outcome → Result ℕ RecordFault → List ℕ → Type 0
+Returns before (Ok text) (Ok n) after = Wrote text before n after
+Returns before (Ok text) (Err g) after = ⊥
+Returns before (Err f) (Ok n) after = ⊥
+Returns before (Err f) (Err g) after = (g ≡ f) × (after ≡ before)
+
+-- a call with a line buffer, whose outcome holds of what it was asked
+pub record Reported (Holds : Outcome → Type 0) (before : List ℕ) (r : Result ℕ RecordFault) (after : List ℕ) : Type 0 where
+  pub outcome : Outcome
+  pub holds : Holds outcome
+  pub returns : Returns before outcome r after
+
+-- a change's outcome, as its call returns it
+abbrev pub quiet : Result (Unit {0}) RecordFault → Outcome
+quiet (Ok u) = Ok []
+quiet (Err f) = Err f
+
+abbrev pub no-line : Result (Unit {0}) RecordFault → Result ℕ RecordFault
+no-line (Ok u) = Ok 0
+no-line (Err f) = Err f

@@ -1,0 +1,12 @@
+//! The shared section record: one step runs one command, and a transcript has the lines of all.
+mod codes;
+mod line_writer;
+mod lines;
+mod running;
+mod stepped;
+mod stepping;
+mod transcripts;
+
+pub use stepped::Stepped;
+pub use stepping::step;
+pub use transcripts::transcript;

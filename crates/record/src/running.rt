@@ -1,0 +1,67 @@
+// Runs one command on a sheet.
+ghost use mathlib.Core.Path.{_≡_};
+ghost use Prim.Native.Nat.{_≤_};
+ghost use lib.ListN.{length};
+ghost use Rattle.sheet.specs.Ledger.{ledger, strike};
+ghost use Rattle.record.specs.Codes.{load-type, effect-kind};
+ghost use Rattle.record.specs.Runs.{Reported, Runs, Enters, Changes, Asks-extremes, quiet, no-line};
+use crate::codes::effect_kind;
+use crate::codes::load_type;
+use crate::lines::write_extremes;
+use command::Command;
+use faults::RecordFault;
+use faults::RecordFromQuestion;
+use faults::RecordFromRead;
+use faults::RecordFromSheet;
+use loads::Effect;
+use loads::LimitState;
+use sheet::Sheet;
+
+// Runs a command; its line, where it has one, goes to the front of the buffer, and its length is
+// returned, 0 for none.
+pub(crate) fn run(sheet: &mut Sheet, command: Command, line: &mut [u8]) -> Result<usize, RecordFault>
+    requires { ⌜ 64 ≤ length (now line) ⌝ }
+    ensures { λ r. ⌜ Reported (Runs (ledger (now (sheet .entry))) command (ledger (now (sheet .exit)))) (now (line .entry)) r (now (line .exit)) ⌝ }
+{
+    match command {
+        Command::Enter { slot, load, effect, sixteenths } => {
+            no_line(run_enter(sheet, slot, load, effect, sixteenths))
+        }
+        Command::Strike { slot } => no_line(run_strike(sheet, slot)),
+        Command::Extremes { state, effect } => run_extremes(sheet, state, effect, line),
+    }
+}
+
+// A change prints nothing.
+fn no_line(result: Result<(), RecordFault>) -> Result<usize, RecordFault>
+    ensures { λ r. ⌜ r ≡ no-line result ⌝ }
+{
+    result?;
+    Ok(0)
+}
+
+fn run_enter(sheet: &mut Sheet, slot: u8, load: u8, effect: u8, sixteenths: i32) -> Result<(), RecordFault>
+    ensures { λ r. ⌜ Enters (ledger (now (sheet .entry))) slot (load-type load) (effect-kind effect) sixteenths (ledger (now (sheet .exit))) (quiet r) ⌝ }
+{
+    let load = load_type(load)?;
+    let kind = effect_kind(effect)?;
+    sheet.enter(slot, load, Effect::from_sixteenths(kind, sixteenths))?;
+    Ok(())
+}
+
+fn run_strike(sheet: &mut Sheet, slot: u8) -> Result<(), RecordFault>
+    ensures { λ r. ⌜ Changes (ledger (now (sheet .entry))) (strike slot) (ledger (now (sheet .exit))) (quiet r) ⌝ }
+{
+    sheet.strike(slot)?;
+    Ok(())
+}
+
+fn run_extremes(sheet: &Sheet, state: u8, effect: u8, line: &mut [u8]) -> Result<usize, RecordFault>
+    requires { ⌜ 64 ≤ length (now line) ⌝ }
+    ensures { λ r. ⌜ Reported (Asks-extremes (ledger (now (sheet .entry))) state (effect-kind effect) (ledger (now (sheet .entry)))) (now (line .entry)) r (now (line .exit)) ⌝ }
+{
+    let kind = effect_kind(effect)?;
+    let state = LimitState::published(state)?;
+    let (low, high) = questions::extremes(sheet, &state, kind);
+    Ok(write_extremes(line, low, high))
+}
