@@ -1,7 +1,7 @@
 -- One step more of a transcript.
 use mathlib.Core.Path.{_≡_, refl, sym, ap, subst, _∙_}
 use mathlib.Core.Bool.{Bool, true, false}
-use mathlib.Core.List.{List, [], _++_}
+use mathlib.Core.List.{List, [], _++_, append-assoc}
 use Prim.Native.Nat.{ℕ, _+_, _-_, _≤_, _<_}
 use native.Mathlib.Omega.{arith}
 use lib.Dec.{eqb, ltb}
@@ -10,13 +10,13 @@ use borrow.Author.Tests.{ne-eqb, le-ltb, lt-ltb, clash}
 use Rattle.std.specs.Orderings.{When}
 use lib.Chars.{codes}
 use Rattle.std.proofs.shelf.Decimals.{decimal-digit, decimal-step}
-use Rattle.std.proofs.shelf.Lists.{take-at}
+use Rattle.std.proofs.shelf.Lists.{take-at, append-nil}
 use Rattle.std.specs.declared.result.Result.{Result}
 use Rattle.std.specs.declared.result.Result.the-variants.{Ok, Err}
 use Rattle.faults.specs.declared.reading.ReadFault.{ReadFault}
 use Rattle.faults.specs.declared.reading.ReadFault.the-variants.{TooLong}
 use Rattle.faults.specs.declared.recorded.RecordFault.the-variants.{Reading}
-use Rattle.sheet.specs.Ledger.{Ledger}
+use Rattle.sheet.specs.Ledger.{Ledger, blank}
 use Rattle.command.specs.declared.commands.Command.{Command}
 use Rattle.command.specs.Bytes.{parsed}
 use Rattle.command.proofs.Shorter.{shorter}
@@ -24,7 +24,7 @@ use Rattle.record.specs.declared.stepped.Stepped.{Stepped}
 use Rattle.record.specs.Lines.{fault-line, Wrote}
 use Rattle.record.specs.Runs.{Outcome}
 use Rattle.record.specs.Steps.{Obeys, Advances, step-text, reported, Steps, Report, MakesStep}
-use Rattle.record.specs.Transcripts.{Follows, Reads, Transcript}
+use Rattle.record.specs.Transcripts.{Follows, Reads, ended, stepped, Transcript}
 
 not-so : (b : Bool) (P Q : Type 0) → b ≡ false → When b P Q → Q
 not-so true P Q e w = absurd (clash (sym e))
@@ -78,8 +78,19 @@ pub too-long-line : fault-line 0 (Reading TooLong) ≡ codes "fault at 0 record 
 too-long-line = rw (decimal-digit 0 (omega arith), decimal-step 20 (omega arith) (omega arith), decimal-digit 2 (omega arith)) refl
 
 pub long : (bytes text : List ℕ) → 65536 < length bytes → text ≡ fault-line 0 (Reading TooLong) → Transcript bytes text
-long bytes text h e = subst (λ b. When b (text ≡ fault-line 0 (Reading TooLong)) ((L : Ledger) × Reads bytes L (length bytes) text)) (sym (lt-ltb 65536 (length bytes) h)) e
+long bytes text h e = subst (λ b. When b (text ≡ fault-line 0 (Reading TooLong)) (Reads bytes blank 0 text)) (sym (lt-ltb 65536 (length bytes) h)) e
 
-pub whole : (bytes text : List ℕ) (L : Ledger) (place : ℕ) → length bytes ≤ 65536 → place ≡ length bytes → Reads bytes L place text → Transcript bytes text
-whole bytes text L place h at r =
-    subst (λ b. When b (text ≡ fault-line 0 (Reading TooLong)) ((L : Ledger) × Reads bytes L (length bytes) text)) (sym (le-ltb 65536 (length bytes) h)) (L, subst (λ p. Reads bytes L p text) at r)
+-- the lines so far begin the transcript: whatever is read from here on goes behind them
+abbrev pub Begun : List ℕ → Ledger → ℕ → List ℕ → Type 0
+Begun bytes L place lines = (text : List ℕ) → Reads bytes L place text → Reads bytes blank 0 (lines ++ text)
+
+module _ (bytes : List ℕ) (L : Ledger) (place : ℕ) (lines : List ℕ) (begun : Begun bytes L place lines) where
+  pub begun-more : (M : Ledger) (next : ℕ) (after : List ℕ) → place < length bytes → Follows L bytes place lines M next after → Begun bytes M next after
+  begun-more M next after h f text r =
+      subst (Reads bytes blank 0) (sym (append-assoc lines (step-text place (f .outcome)) text) ∙ ap (λ x. x ++ text) (sym (f .lines)))
+      (begun (step-text place (f .outcome) ++ text) (stepped M next (f .outcome) h (f .advances) r))
+
+  pub whole : length bytes ≤ 65536 → place ≡ length bytes → Transcript bytes lines
+  whole h at =
+      let all = begun [] (subst (λ p. Reads bytes L p []) (sym at) ended) in
+      subst (λ b. When b (lines ≡ fault-line 0 (Reading TooLong)) (Reads bytes blank 0 lines)) (sym (le-ltb 65536 (length bytes) h)) (subst (Reads bytes blank 0) (append-nil lines) all)

@@ -18,14 +18,12 @@ pub record Follows (L : Ledger) (bytes : List ℕ) (place : ℕ) (before : List 
   pub advances : Advances L bytes place M next outcome
   pub lines : after ≡ before ++ step-text place outcome
 
--- the ledger, the place and the lines after some steps from a new sheet at place 0, one after another with none skipped
+-- the lines from a ledger and a place to the record's end: those of one step after another, with none skipped
 pub data Reads (bytes : List ℕ) : Ledger → ℕ → List ℕ → Type 0 where
-  begun : Reads bytes blank 0 []
-  step : {L : Ledger} {place : ℕ} {before : List ℕ} (M : Ledger) (next : ℕ) (after : List ℕ) →
-      Reads bytes L place before → place < length bytes → Follows L bytes place before M next after → Reads bytes M next after
+  ended : {L : Ledger} → Reads bytes L (length bytes) []
+  stepped : {L : Ledger} {place : ℕ} {text : List ℕ} (M : Ledger) (next : ℕ) (o : Outcome) →
+      place < length bytes → Advances L bytes place M next o → Reads bytes M next text → Reads bytes L place (step-text place o ++ text)
 
--- the lines of all steps to the record's end; of a record over 65,536 bytes one fault line
+-- the lines of a record, from a new sheet and its first byte; of a record over 65,536 bytes one fault line
 abbrev pub Transcript : List ℕ → List ℕ → Type 0
-Transcript bytes text =
-    When (ltb 65536 (length bytes)) (text ≡ fault-line 0 (Reading TooLong))
-    ((L : Ledger) × Reads bytes L (length bytes) text)
+Transcript bytes text = When (ltb 65536 (length bytes)) (text ≡ fault-line 0 (Reading TooLong)) (Reads bytes blank 0 text)

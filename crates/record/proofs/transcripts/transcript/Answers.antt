@@ -6,8 +6,8 @@ use native.Mathlib.Omega.{arith}
 use lib.ListN.{length}
 use Rattle.std.specs.Of.Vec.{vec-items}
 use Rattle.sheet.specs.Ledger.{ledger, blank}
-use Rattle.record.specs.Transcripts.{Reads, begun, step}
-use Rattle.record.proofs.Following.{forward, long, too-long-line, whole}
+use Rattle.record.specs.Transcripts.{Reads}
+use Rattle.record.proofs.Following.{forward, long, too-long-line, begun-more, whole}
 use Rattle.record.proofs.transcripts.transcript.Needs as need
 
 pub returns-then-bytes-gt65536 : need.returns-then-bytes-gt65536
@@ -17,8 +17,7 @@ returns-then-bytes-gt65536 c = long (c .args .bytes .now) (vec-items (c .extend-
 pub loop-place-holds : need.loop-place-holds
 loop-place-holds c =
     (omega arith,
-    subst (λ L. Reads (c .args .bytes .now) L 0 (vec-items (c .new-lines .result))) (sym (c .new-sheet .ensures))
-    (subst (Reads (c .args .bytes .now) blank 0) (sym (c .new-lines .ensures .items)) begun))
+    λ text r. subst (λ x. Reads (c .args .bytes .now) blank 0 (x ++ text)) (sym (c .new-lines .ensures .items)) (subst (λ L. Reads (c .args .bytes .now) L 0 text) (c .new-sheet .ensures) r))
 
 pub loop-place-less : need.loop-place-less
 loop-place-less c =
@@ -30,7 +29,9 @@ pub loop-place-again : need.loop-place-again
 loop-place-again c =
     let f = c .in-Continue-place .ensures tt in
     let g = forward (ledger (c .loop-place .sheet)) (c .args .bytes .now) (c .loop-place .place) _ (c .in-Continue-place .place) (f .outcome) (c .loop-place-test .taken) (f .advances) in
-    (g .1, step _ (c .in-Continue-place .place) _ (c .loop-place .inv .1) (c .loop-place-test .taken) f)
+    (g .1, begun-more (c .args .bytes .now) (ledger (c .loop-place .sheet)) (c .loop-place .place) (vec-items (c .loop-place .lines)) (c .loop-place .inv .1)
+    (ledger (c .step-more .last .sheet)) (c .in-Continue-place .place) (vec-items (c .step-more .last .lines)) (c .loop-place-test .taken) f)
 
 pub returns : need.returns
-returns c = let e : c .loop-place .place ≡ length (c .args .bytes .now) = omega arith in whole (c .args .bytes .now) (vec-items (c .loop-place .lines)) (ledger (c .loop-place .sheet)) (c .loop-place .place) (c .if-bytes-gt65536 .left) e (c .loop-place .inv .1)
+returns c = let e : c .loop-place .place ≡ length (c .args .bytes .now) = omega arith in
+    whole (c .args .bytes .now) (ledger (c .loop-place .sheet)) (c .loop-place .place) (vec-items (c .loop-place .lines)) (c .loop-place .inv .1) (c .if-bytes-gt65536 .left) e
