@@ -25,7 +25,15 @@ fn read_enter(operands: &[u8]) -> Result<(Command, &[u8]), ReadFault>
         return Err(ReadFault::CutShort);
     };
     let sixteenths = i32::from_be_bytes([*s3, *s2, *s1, *s0]);
-    Ok((Command::Enter { slot: *slot, load: *load, effect: *effect, sixteenths }, rest))
+    Ok((
+        Command::Enter {
+            slot: *slot,
+            load: *load,
+            effect: *effect,
+            sixteenths,
+        },
+        rest,
+    ))
 }
 
 fn read_strike(operands: &[u8]) -> Result<(Command, &[u8]), ReadFault>
@@ -43,5 +51,11 @@ fn read_extremes(operands: &[u8]) -> Result<(Command, &[u8]), ReadFault>
     let [state, effect, rest @ ..] = operands else {
         return Err(ReadFault::CutShort);
     };
-    Ok((Command::Extremes { state: *state, effect: *effect }, rest))
+    Ok((
+        Command::Extremes {
+            state: *state,
+            effect: *effect,
+        },
+        rest,
+    ))
 }

@@ -2,4 +2,4 @@ mod FloatValues
 mod Sixteenths
 mod FromSixteenths
 mod Meaning
-mod Laws
+pub mod Laws

@@ -54,7 +54,7 @@ taken {L} {bytes} {place} {before} {M} {s} {after} few room m =
     record {
       outcome = g .1;
       advances = subst (λ n. Advances L bytes place M n (g .1)) (sym (m .place ∙ ap (λ (r : Report). r .next) (g .3))) (g .2);
-      wrote = subst (λ t. Wrote t before (s .written) after) (ap (λ (r : Report). r .text) (g .3)) (m .wrote)
+      wrote = subst (λ t. Wrote t before (s .written) after) (ap (λ (r : Report). r .text) (g .3)) (m .wrote);
     }
 
 -- the line is the front of the buffer
@@ -71,7 +71,7 @@ pub follows : {L : Ledger} {bytes : List ℕ} {place : ℕ} {buffer : List ℕ} 
 follows {before = before} t e = record {
   outcome = t .outcome;
   advances = t .advances;
-  lines = e ∙ ap (λ x. before ++ x) (front (t .wrote))
+  lines = e ∙ ap (λ x. before ++ x) (front (t .wrote));
 }
 
 pub too-long-line : fault-line 0 (Reading TooLong) ≡ codes "fault at 0 record 20\n"

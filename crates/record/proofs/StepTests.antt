@@ -57,7 +57,7 @@ module _ (L : Ledger) (bytes : List ℕ) (place : ℕ) where
     ran c rest M before q after e x = record {
       outcome = x .outcome;
       holds = within M (length bytes - length rest) (x .outcome) (subst (λ r. Obeys L bytes r M (length bytes - length rest) (x .outcome)) (read-here (Ok (c, rest)) e) (x .holds, refl));
-      returns = x .returns
+      returns = x .returns;
     }
 
 -- a step that stays
@@ -68,7 +68,7 @@ module _ (L : Ledger) (bytes : List ℕ) (place : ℕ) (before : List ℕ) (s : 
     steps = steps;
     place = ap (λ (x : Stepped). x .place) e;
     wrote = record { len = ap (λ (x : Stepped). x .written) e; after = ap (λ (n : ℕ). drop n before) (sym (ap (λ (x : Stepped). x .written) e)) };
-    fault = ap (λ (x : Stepped). x .fault) e
+    fault = ap (λ (x : Stepped). x .fault) e;
   }
 
   pub too-long : 65536 < length bytes → s ≡ record { place = place; written = 0; fault = fault-at place (Reading TooLong) } → MakesStep L bytes place before L s before
@@ -100,5 +100,5 @@ module _ (L : Ledger) (bytes : List ℕ) (place : ℕ) (before : List ℕ) (few 
         steps = goes (Err g) a;
         place = refl;
         wrote = subst (λ h. Wrote (fault-line place h) before n after) (v .0) (subst (λ b. Wrote (fault-line place f) b n after) (v .1) w);
-        fault = ap (fault-at place) (v .0)
+        fault = ap (fault-at place) (v .0);
       }

@@ -25,7 +25,7 @@ then {p} {q} {r} {s} {t} a b = record {
   len = let e = a .len in let f = b .len in omega (arith, length-append s t);
   size = b .size ∙ a .size;
   front = b .front ∙ ap (λ (x : List ℕ). x ++ t) (a .front) ∙ append-assoc (written p) s t;
-  back = b .back ∙ ap (drop (length t)) (a .back) ∙ drop-drop (length t) (length s) (room p) ∙ ap (λ (n : ℕ). drop n (room p)) (sym (length-append s t))
+  back = b .back ∙ ap (drop (length t)) (a .back) ∙ drop-drop (length t) (length s) (room p) ∙ ap (λ (n : ℕ). drop n (room p)) (sym (length-append s t));
 }
 
 pub adds-is : {p q : LineWriter} {s t : List ℕ} → s ≡ t → Adds p s q → Adds p t q

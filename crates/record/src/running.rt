@@ -19,14 +19,21 @@ use sheet::Sheet;
 
 // Runs a command; its line, where it has one, goes to the front of the buffer, and its length is
 // returned, 0 for none.
-pub(crate) fn run(sheet: &mut Sheet, command: Command, line: &mut [u8]) -> Result<usize, RecordFault>
+pub(crate) fn run(
+    sheet: &mut Sheet,
+    command: Command,
+    line: &mut [u8],
+) -> Result<usize, RecordFault>
     requires { ⌜ 64 ≤ length (now line) ⌝ }
     ensures { λ r. ⌜ Reported (Runs (ledger (now (sheet .entry))) command (ledger (now (sheet .exit)))) (now (line .entry)) r (now (line .exit)) ⌝ }
 {
     match command {
-        Command::Enter { slot, load, effect, sixteenths } => {
-            no_line(run_enter(sheet, slot, load, effect, sixteenths))
-        }
+        Command::Enter {
+            slot,
+            load,
+            effect,
+            sixteenths,
+        } => { no_line(run_enter(sheet, slot, load, effect, sixteenths)) }
         Command::Strike { slot } => no_line(run_strike(sheet, slot)),
         Command::Extremes { state, effect } => run_extremes(sheet, state, effect, line),
     }
@@ -40,7 +47,13 @@ fn no_line(result: Result<(), RecordFault>) -> Result<usize, RecordFault>
     Ok(0)
 }
 
-fn run_enter(sheet: &mut Sheet, slot: u8, load: u8, effect: u8, sixteenths: i32) -> Result<(), RecordFault>
+fn run_enter(
+    sheet: &mut Sheet,
+    slot: u8,
+    load: u8,
+    effect: u8,
+    sixteenths: i32,
+) -> Result<(), RecordFault>
     ensures { λ r. ⌜ Enters (ledger (now (sheet .entry))) slot (load-type load) (effect-kind effect) sixteenths (ledger (now (sheet .exit))) (quiet r) ⌝ }
 {
     let load = load_type(load)?;

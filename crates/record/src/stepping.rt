@@ -28,10 +28,18 @@ pub fn step(sheet: &mut Sheet, bytes: &[u8], place: usize, line: &mut [u8]) -> S
     }
     let (next, result) = advance(sheet, bytes, place, line);
     match result {
-        Ok(written) => Stepped { place: next, written, fault: None },
+        Ok(written) => Stepped {
+            place: next,
+            written,
+            fault: None,
+        },
         Err(fault) => {
             let written = write_fault(line, place, fault);
-            Stepped { place: next, written, fault: Some(Fault { place, fault }) }
+            Stepped {
+                place: next,
+                written,
+                fault: Some(Fault { place, fault }),
+            }
         }
     }
 }
@@ -40,12 +48,24 @@ pub fn step(sheet: &mut Sheet, bytes: &[u8], place: usize, line: &mut [u8]) -> S
 fn halted(place: usize, fault: ReadFault) -> Stepped
     ensures { λ r. ⌜ r ≡ record { place = place; written = 0; fault = fault-at place (Reading fault) } ⌝ }
 {
-    let fault = Fault { place, fault: RecordFault::Reading(fault) };
-    Stepped { place, written: 0, fault: Some(fault) }
+    let fault = Fault {
+        place,
+        fault: RecordFault::Reading(fault),
+    };
+    Stepped {
+        place,
+        written: 0,
+        fault: Some(fault),
+    }
 }
 
 // The place of the next command, and the length of this one's line or its fault.
-fn advance(sheet: &mut Sheet, bytes: &[u8], place: usize, line: &mut [u8]) -> (usize, Result<usize, RecordFault>)
+fn advance(
+    sheet: &mut Sheet,
+    bytes: &[u8],
+    place: usize,
+    line: &mut [u8],
+) -> (usize, Result<usize, RecordFault>)
     requires { ⌜ 64 ≤ length (now line) ⌝ }
     ensures { λ r. ⌜ Reported (Advances (ledger (now (sheet .entry))) (now (bytes .entry)) place (ledger (now (sheet .exit))) (r .0)) (now (line .entry)) (r .1) (now (line .exit)) ⌝ }
 {

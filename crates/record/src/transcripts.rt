@@ -29,7 +29,12 @@ pub fn transcript(heap: Global, bytes: &[u8]) -> Result<Vec<u8>, AllocError>
 }
 
 // One step, its line behind those before it; the place of the next.
-fn step_more(sheet: &mut Sheet, bytes: &[u8], place: usize, lines: &mut Vec<u8>) -> Result<usize, AllocError>
+fn step_more(
+    sheet: &mut Sheet,
+    bytes: &[u8],
+    place: usize,
+    lines: &mut Vec<u8>,
+) -> Result<usize, AllocError>
     requires { ⌜ length (now bytes) ≤ 65536 ⌝ }
     ensures { λ r. ⌜ made r (λ next. Follows (ledger (now (sheet .entry))) (now (bytes .entry)) place (vec-items (now (lines .entry))) (ledger (now (sheet .exit))) next (vec-items (now (lines .exit)))) ⌝ }
 {

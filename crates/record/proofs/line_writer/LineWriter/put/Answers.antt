@@ -11,6 +11,6 @@ returns c = record {
     len = refl;
     size = search (needs, places);
     front = search (needs, overwrites);
-    back = search (needs, overwrites, drop-drop)
-  }
+    back = search (needs, overwrites, drop-drop);
+  };
 }

@@ -6,5 +6,5 @@ pub returns-then-n-lt0 : need.returns-then-n-lt0
 returns-then-n-lt0 c = record {
   same = search needs;
   adds = adds-below (c .args .n) (c .unsigned-abs .result) (c .fits .n) (c .if-n-lt0 .taken) (c .unsigned-abs .ensures .value) (c .put .ensures .adds) (c .put-unsigned .ensures .adds);
-  bound = search needs
+  bound = search needs;
 }

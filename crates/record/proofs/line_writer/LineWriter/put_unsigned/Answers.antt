@@ -10,5 +10,5 @@ pub returns : need.returns
 returns c = record {
   same = c .put-digits .ensures .same;
   adds = c .put-digits .ensures .adds;
-  bound = omega (arith, length-decimal-le 20 (c .args .n) (search needs) (search needs) (search needs))
+  bound = omega (arith, length-decimal-le 20 (c .args .n) (search needs) (search needs) (search needs));
 }

@@ -1,0 +1,6 @@
+//! Worked figures, each as a theorem on the definitions that the contracts cite: the function
+//! that carries it does nothing.
+mod load_effects;
+
+pub use load_effects::dead_and_live;
+pub use load_effects::opposed;
