@@ -1,5 +1,6 @@
 //! Every refusal: its number, the layer it arose in, the slot of the refused call, and the place of its command.
 mod layer;
+mod part;
 mod place;
 mod question;
 mod reading;
@@ -8,10 +9,12 @@ mod sheet;
 mod value;
 
 pub use layer::Layer;
+pub use part::PartFault;
 pub use place::Fault;
 pub use question::QuestionFault;
 pub use reading::ReadFault;
 pub use recorded::RecordFault;
+pub use recorded::RecordFromPart;
 pub use recorded::RecordFromQuestion;
 pub use recorded::RecordFromRead;
 pub use recorded::RecordFromSheet;

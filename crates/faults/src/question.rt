@@ -4,6 +4,14 @@ ghost use Rattle.faults.specs.Numbers.{question-number};
 
 #[derive(Clone, Copy)]
 pub enum QuestionFault {
+    // a smallest plastic moment of 0
+    NoMoment,
+    // a flange or the web that the question reads lacks
+    PlateMissing,
+    // a stiffener spacing outside its range
+    SpacingLimits,
+    // a stud outside its limits
+    StudLimits,
     // a low factor above its high one, or a factor above 1,000
     UnlawfulFactors,
     // a published limit state's number that is not 1 to 9
@@ -15,6 +23,10 @@ impl QuestionFault {
         ensures { λ r. ⌜ r ≡ question-number self ⌝ }
     {
         match self {
+            QuestionFault::NoMoment => 11,
+            QuestionFault::PlateMissing => 12,
+            QuestionFault::SpacingLimits => 13,
+            QuestionFault::StudLimits => 14,
             QuestionFault::UnlawfulFactors => 15,
             QuestionFault::UnknownState => 15,
         }

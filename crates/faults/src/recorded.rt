@@ -1,8 +1,9 @@
 // The fault of a record's command: the command's own, or that of the call it makes.
 ghost use mathlib.Core.Path.{_≡_};
-ghost use Rattle.faults.specs.declared.recorded.RecordFault.the-variants.{Sheet, Question, Reading};
+ghost use Rattle.faults.specs.declared.recorded.RecordFault.the-variants.{Sheet, Part, Question, Reading};
 ghost use Rattle.faults.specs.Numbers as numbers;
 use crate::layer::Layer;
+use crate::part::PartFault;
 use crate::question::QuestionFault;
 use crate::reading::ReadFault;
 use crate::sheet::SheetFault;
@@ -10,6 +11,7 @@ use crate::sheet::SheetFault;
 #[derive(Clone, Copy)]
 pub enum RecordFault {
     Sheet(SheetFault),
+    Part(PartFault),
     Question(QuestionFault),
     Reading(ReadFault),
 }
@@ -19,6 +21,14 @@ pub impl From<SheetFault> for RecordFault as RecordFromSheet {
 
     fn from(fault: SheetFault) -> RecordFault {
         RecordFault::Sheet(fault)
+    }
+}
+
+pub impl From<PartFault> for RecordFault as RecordFromPart {
+    ghost converts = { λ f r. r ≡ Part f };
+
+    fn from(fault: PartFault) -> RecordFault {
+        RecordFault::Part(fault)
     }
 }
 
@@ -44,6 +54,7 @@ impl RecordFault {
     {
         match self {
             RecordFault::Sheet(fault) => fault.number(),
+            RecordFault::Part(fault) => fault.number(),
             RecordFault::Question(fault) => fault.number(),
             RecordFault::Reading(fault) => fault.number(),
         }
@@ -54,6 +65,7 @@ impl RecordFault {
     {
         match self {
             RecordFault::Sheet(fault) => fault.layer(),
+            RecordFault::Part(_) => Layer::Part,
             RecordFault::Question(_) => Layer::Question,
             RecordFault::Reading(_) => Layer::Record,
         }

@@ -15,7 +15,15 @@ pub enum SheetReason {
     SlotFull,
     // an empty slot that is to be emptied
     SlotEmpty,
+    // a plate's role, measure or yield outside its limits
+    PlateLimits,
+    // a plate whose role stands already
+    RoleStands,
+    // plates that would pass 2^36 together
+    TooStrong,
     Value(ValueFault),
+    // a lowered plate that would pass level 4,096
+    TooLow,
 }
 
 // A refused change: the reason, and the slot where the call names one.
@@ -61,7 +69,11 @@ impl SheetFault {
             SheetReason::NoSlot => 1,
             SheetReason::SlotFull => 2,
             SheetReason::SlotEmpty => 3,
+            SheetReason::PlateLimits => 4,
+            SheetReason::RoleStands => 5,
+            SheetReason::TooStrong => 6,
             SheetReason::Value(fault) => fault.number(),
+            SheetReason::TooLow => 9,
         }
     }
 

@@ -10,7 +10,7 @@ use Rattle.std.specs.declared.result.Result.the-variants.{Ok, Err}
 use Rattle.faults.specs.declared.reading.ReadFault.{ReadFault}
 use Rattle.faults.specs.declared.question.QuestionFault.the-variants.{UnknownState}
 use Rattle.faults.specs.declared.recorded.RecordFault.{RecordFault}
-use Rattle.faults.specs.declared.recorded.RecordFault.the-variants.{Sheet, Question, Reading}
+use Rattle.faults.specs.declared.recorded.RecordFault.the-variants.{Sheet, Part, Question, Reading}
 use Rattle.loads.specs.declared.load_type.LoadType.{LoadType}
 use Rattle.loads.specs.declared.kind.EffectKind.{EffectKind}
 use Rattle.loads.specs.Values.{judged-sixteenths}
@@ -34,6 +34,7 @@ Refused L f M o = (o ≡ Err (Reading f)) × (M ≡ L)
 abbrev pub Changes : Ledger → Change → Ledger → Outcome → Type 0
 Changes L c M (Ok text) = Answers L c (Ok tt) × (M ≡ changed L c) × (text ≡ [])
 Changes L c M (Err (Sheet f)) = Answers L c (Err f) × (M ≡ L)
+Changes L c M (Err (Part f)) = ⊥
 Changes L c M (Err (Question f)) = ⊥
 Changes L c M (Err (Reading f)) = ⊥
 
