@@ -1,1 +1,6 @@
 pub mod Sums
+pub mod SlotTests
+pub mod FirstLine
+pub mod Lowering
+pub mod Roles
+pub mod Kept

@@ -1,3 +1,5 @@
 pub mod Slots
+pub mod Plates
 pub mod Totals
+pub mod Invariants
 pub mod Ledger

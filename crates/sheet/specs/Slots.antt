@@ -1,6 +1,6 @@
 -- Slots that may be empty.
-use mathlib.Core.Bool.{Bool}
-use mathlib.Core.List.{List}
+use mathlib.Core.Bool.{Bool, false, _||_}
+use mathlib.Core.List.{List, [], _∷_}
 use Prim.Native.Nat.{ℕ}
 use lib.ListN.{getD, replicate}
 use Rattle.std.specs.Options.{isSome}
@@ -16,3 +16,8 @@ content xs i = getD xs i None
 
 abbrev pub full : {X : Type 0} → List (Option X) → ℕ → Bool
 full xs i = isSome (content xs i)
+
+-- whether a test holds of some slot
+abbrev pub some-slot : {X : Type 0} → (X → Bool) → List X → Bool
+some-slot f [] = false
+some-slot f (x ∷ xs) = f x || some-slot f xs

@@ -1,35 +1,61 @@
-// A new sheet, its changes, and what stands in its slots.
+// A new sheet, and the changes to it.
 ghost use mathlib.Core.Path.{_≡_};
-ghost use Prim.Native.Nat.{_^_, _≤_};
-ghost use lib.IntN.{pos, natAbs};
-ghost use lib.ListN.{getD};
-ghost use Rattle.loads.specs.declared.load_type.LoadType.{LoadType as LoadTypes};
-ghost use Rattle.loads.specs.Factors.{index};
 ghost use Rattle.loads.specs.Values.{judged};
 ghost use Rattle.loads.specs.Kinds.{value-of, kind-of};
-ghost use Rattle.sheet.specs.Totals.{type-sum};
-ghost use Rattle.sheet.specs.Ledger.{blank, ledger, enter, strike, after, Refuses, Answers, Shows};
+ghost use Rattle.sheet.specs.Ledger as calls;
+ghost use Rattle.sheet.specs.Ledger.{blank, ledger, after, Refuses, Answers};
 use crate::held::Sheet;
+use crate::plate::PlateInput;
+use crate::plates::Plates;
 use crate::row::Row;
 use crate::rows::Rows;
 use faults::SheetFault;
 use faults::SheetFromValue;
 use faults::SheetReason;
 use loads::Effect;
-use loads::EffectKind;
 use loads::LoadType;
 
 impl Sheet {
     pub fn new() -> Sheet
         ensures { λ r. ⌜ ledger r ≡ blank ⌝ }
     {
-        Sheet { rows: Rows::new() }
+        Sheet { plates: Plates::new(), rows: Rows::new() }
+    }
+
+    // Puts a plate into a plate slot; refused with 1, 2, 4, 5 or 6.
+    pub fn place(&mut self, slot: u8, plate: PlateInput) -> Result<(), SheetFault>
+        ensures answer { λ r. ⌜ Answers (ledger (now (self .entry))) (calls.place slot plate) r ⌝ }
+        ensures slots { λ _. ⌜ ledger (now (self .exit)) ≡ after (ledger (now (self .entry))) (calls.place slot plate) ⌝ }
+    {
+        match self.try_place(slot, plate) {
+            Ok(()) => Ok(()),
+            Err(fault) => Err(fault.at_slot(slot)),
+        }
+    }
+
+    // Takes the plate out of a plate slot; refused with 1 or 3.
+    pub fn lift(&mut self, slot: u8) -> Result<(), SheetFault>
+        ensures answer { λ r. ⌜ Answers (ledger (now (self .entry))) (calls.lift slot) r ⌝ }
+        ensures slots { λ _. ⌜ ledger (now (self .exit)) ≡ after (ledger (now (self .entry))) (calls.lift slot) ⌝ }
+    {
+        match self.try_lift(slot) {
+            Ok(()) => Ok(()),
+            Err(fault) => Err(fault.at_slot(slot)),
+        }
+    }
+
+    // Adds n to the top of every standing plate; refused with 9.
+    pub fn lower(&mut self, n: u16) -> Result<(), SheetFault>
+        ensures answer { λ r. ⌜ Answers (ledger (now (self .entry))) (calls.lower n) r ⌝ }
+        ensures slots { λ _. ⌜ ledger (now (self .exit)) ≡ after (ledger (now (self .entry))) (calls.lower n) ⌝ }
+    {
+        self.try_lower(n)
     }
 
     // Puts a row into an effect slot; refused with 1, 2, 7 or 8.
     pub fn enter(&mut self, slot: u8, load: LoadType, effect: Effect) -> Result<(), SheetFault>
-        ensures answer { λ r. ⌜ Answers (ledger (now (self .entry))) (enter slot load (kind-of effect) (judged (value-of effect))) r ⌝ }
-        ensures slots { λ _. ⌜ ledger (now (self .exit)) ≡ after (ledger (now (self .entry))) (enter slot load (kind-of effect) (judged (value-of effect))) ⌝ }
+        ensures answer { λ r. ⌜ Answers (ledger (now (self .entry))) (calls.enter slot load (kind-of effect) (judged (value-of effect))) r ⌝ }
+        ensures slots { λ _. ⌜ ledger (now (self .exit)) ≡ after (ledger (now (self .entry))) (calls.enter slot load (kind-of effect) (judged (value-of effect))) ⌝ }
     {
         match self.try_enter(slot, load, effect) {
             Ok(()) => Ok(()),
@@ -37,10 +63,71 @@ impl Sheet {
         }
     }
 
-    // The same with a fault that does not name the slot yet.
+    // Takes the row out of an effect slot; refused with 1 or 3.
+    pub fn strike(&mut self, slot: u8) -> Result<(), SheetFault>
+        ensures answer { λ r. ⌜ Answers (ledger (now (self .entry))) (calls.strike slot) r ⌝ }
+        ensures slots { λ _. ⌜ ledger (now (self .exit)) ≡ after (ledger (now (self .entry))) (calls.strike slot) ⌝ }
+    {
+        match self.try_strike(slot) {
+            Ok(()) => Ok(()),
+            Err(fault) => Err(fault.at_slot(slot)),
+        }
+    }
+
+    // The calls below make the changes; their faults do not name the slot yet.
+
+    fn try_place(&mut self, slot: u8, plate: PlateInput) -> Result<(), SheetFault>
+        ensures answer { λ r. ⌜ Refuses (ledger (now (self .entry))) (calls.place slot plate) r ⌝ }
+        ensures slots { λ _. ⌜ ledger (now (self .exit)) ≡ after (ledger (now (self .entry))) (calls.place slot plate) ⌝ }
+    {
+        if slot >= 24 {
+            return Err(SheetFault::new(SheetReason::NoSlot));
+        }
+        if self.plates.is_full(slot) {
+            return Err(SheetFault::new(SheetReason::SlotFull));
+        }
+        if !plate.is_lawful() {
+            return Err(SheetFault::new(SheetReason::PlateLimits));
+        }
+        let plate = plate.plate();
+        if self.plates.has_role(plate.role) {
+            return Err(SheetFault::new(SheetReason::RoleStands));
+        }
+        if self.plates.total_force() + plate.force() > 1 << 36 {
+            return Err(SheetFault::new(SheetReason::TooStrong));
+        }
+        self.plates.put(slot, plate);
+        Ok(())
+    }
+
+    fn try_lift(&mut self, slot: u8) -> Result<(), SheetFault>
+        ensures answer { λ r. ⌜ Refuses (ledger (now (self .entry))) (calls.lift slot) r ⌝ }
+        ensures slots { λ _. ⌜ ledger (now (self .exit)) ≡ after (ledger (now (self .entry))) (calls.lift slot) ⌝ }
+    {
+        if slot >= 24 {
+            return Err(SheetFault::new(SheetReason::NoSlot));
+        }
+        if !self.plates.is_full(slot) {
+            return Err(SheetFault::new(SheetReason::SlotEmpty));
+        }
+        self.plates.take_out(slot);
+        Ok(())
+    }
+
+    fn try_lower(&mut self, n: u16) -> Result<(), SheetFault>
+        ensures answer { λ r. ⌜ Answers (ledger (now (self .entry))) (calls.lower n) r ⌝ }
+        ensures slots { λ _. ⌜ ledger (now (self .exit)) ≡ after (ledger (now (self .entry))) (calls.lower n) ⌝ }
+    {
+        if self.plates.would_pass(n) {
+            return Err(SheetFault::new(SheetReason::TooLow));
+        }
+        self.plates.lower(n);
+        Ok(())
+    }
+
     fn try_enter(&mut self, slot: u8, load: LoadType, effect: Effect) -> Result<(), SheetFault>
-        ensures answer { λ r. ⌜ Refuses (ledger (now (self .entry))) (enter slot load (kind-of effect) (judged (value-of effect))) r ⌝ }
-        ensures slots { λ _. ⌜ ledger (now (self .exit)) ≡ after (ledger (now (self .entry))) (enter slot load (kind-of effect) (judged (value-of effect))) ⌝ }
+        ensures answer { λ r. ⌜ Refuses (ledger (now (self .entry))) (calls.enter slot load (kind-of effect) (judged (value-of effect))) r ⌝ }
+        ensures slots { λ _. ⌜ ledger (now (self .exit)) ≡ after (ledger (now (self .entry))) (calls.enter slot load (kind-of effect) (judged (value-of effect))) ⌝ }
     {
         if slot >= 64 {
             return Err(SheetFault::new(SheetReason::NoSlot));
@@ -49,47 +136,21 @@ impl Sheet {
             return Err(SheetFault::new(SheetReason::SlotFull));
         }
         let sixteenths = effect.sixteenths()?;
-        self.rows.put(
-            slot,
-            Row {
-                load,
-                kind: effect.kind(),
-                sixteenths,
-            },
-        );
+        self.rows.put(slot, Row { load, kind: effect.kind(), sixteenths });
         Ok(())
     }
 
-    // Takes the row out of an effect slot; refused with 1 or 3.
-    pub fn strike(&mut self, slot: u8) -> Result<(), SheetFault>
-        ensures answer { λ r. ⌜ Answers (ledger (now (self .entry))) (strike slot) r ⌝ }
-        ensures slots { λ _. ⌜ ledger (now (self .exit)) ≡ after (ledger (now (self .entry))) (strike slot) ⌝ }
+    fn try_strike(&mut self, slot: u8) -> Result<(), SheetFault>
+        ensures answer { λ r. ⌜ Refuses (ledger (now (self .entry))) (calls.strike slot) r ⌝ }
+        ensures slots { λ _. ⌜ ledger (now (self .exit)) ≡ after (ledger (now (self .entry))) (calls.strike slot) ⌝ }
     {
         if slot >= 64 {
-            return Err(SheetFault::new(SheetReason::NoSlot).at_slot(slot));
+            return Err(SheetFault::new(SheetReason::NoSlot));
         }
         if !self.rows.is_full(slot) {
-            return Err(SheetFault::new(SheetReason::SlotEmpty).at_slot(slot));
+            return Err(SheetFault::new(SheetReason::SlotEmpty));
         }
         self.rows.take_out(slot);
         Ok(())
-    }
-
-    // What stands in an effect slot; refused with 1.
-    pub fn row(&self, slot: u8) -> Result<Option<Row>, SheetFault>
-        ensures { λ r. ⌜ Shows (ledger (now (self .entry))) slot r ⌝ }
-    {
-        if slot >= 64 {
-            return Err(SheetFault::new(SheetReason::NoSlot).at_slot(slot));
-        }
-        Ok(self.rows.get(slot))
-    }
-
-    // The sums of the standing rows of one kind in sixteenths, for each load type by its index.
-    pub fn type_sums(&self, kind: EffectKind) -> [i64; 4]
-        ensures value { λ r. ⌜ ((t : LoadTypes) → getD r (index t) (pos 0) ≡ type-sum t kind (ledger (now (self .entry)) .rows)) ⌝ }
-        ensures bound { λ r. ⌜ ((t : LoadTypes) → natAbs (getD r (index t) (pos 0)) ≤ 2 ^ 37) ⌝ }
-    {
-        self.rows.type_sums(kind)
     }
 }

@@ -1,8 +1,14 @@
 //! A sheet: what stands in the slots of one section, the changes to it, and their refusals.
 mod changes;
 mod held;
+mod plate;
+mod plates;
 mod row;
 mod rows;
+mod telling;
 
 pub use held::Sheet;
+pub use plate::Plate;
+pub use plate::PlateInput;
+pub use plate::Role;
 pub use row::Row;
