@@ -11,7 +11,7 @@ use Rattle.std.specs.declared.result.Result.the-variants.{Ok, Err}
 use Rattle.faults.specs.declared.reading.ReadFault.{ReadFault}
 use Rattle.faults.specs.declared.reading.ReadFault.the-variants.{UnknownCommand, CutShort}
 use Rattle.command.specs.declared.commands.Command.{Command}
-use Rattle.command.specs.Bytes.{taking, parsed, enter, strike, extremes}
+use Rattle.command.specs.Bytes.{taking, parsed, place, lift, lower, enter, strike, extremes}
 
 -- the length of what follows, where a command was read
 abbrev left : Result (Command × List ℕ) ReadFault → ℕ
@@ -31,9 +31,12 @@ left-cond false x y n p q = q
 
 left-parsed : (b : ℕ) (ops : List ℕ) → left (parsed (b ∷ ops)) ≤ length ops
 left-parsed b ops =
-    left-cond (eqb b 4) _ _ (length ops) (left-taking 7 ops (enter ops))
+    left-cond (eqb b 1) _ _ (length ops) (left-taking 12 ops (place ops))
+    (left-cond (eqb b 2) _ _ (length ops) (left-taking 1 ops (lift ops))
+    (left-cond (eqb b 3) _ _ (length ops) (left-taking 2 ops (lower ops))
+    (left-cond (eqb b 4) _ _ (length ops) (left-taking 7 ops (enter ops))
     (left-cond (eqb b 5) _ _ (length ops) (left-taking 1 ops (strike ops))
-    (left-cond (eqb b 6) _ _ (length ops) (left-taking 2 ops (extremes ops)) (omega arith)))
+    (left-cond (eqb b 6) _ _ (length ops) (left-taking 2 ops (extremes ops)) (omega arith))))))
 
 pub shorter : (bs : List ℕ) (c : Command) (rest : List ℕ) → Ok (c, rest) ≡ parsed bs → length rest < length bs
 shorter [] c rest e = let z : _≡_ {A = ℕ} 0 1 = cc in absurd (omega arith)

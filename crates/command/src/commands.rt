@@ -1,6 +1,20 @@
 // A command with its operands as they stand in the record: codes are not judged yet.
 #[derive(Clone, Copy)]
 pub enum Command {
+    Place {
+        slot: u8,
+        role: u8,
+        top: u16,
+        breadth: u16,
+        height: u16,
+        fy: u32,
+    },
+    Lift {
+        slot: u8,
+    },
+    Lower {
+        levels: u16,
+    },
     Enter {
         slot: u8,
         load: u8,

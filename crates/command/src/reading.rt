@@ -1,6 +1,6 @@
 // Reads one command.
 ghost use mathlib.Core.Path.{_≡_};
-ghost use Rattle.command.specs.Bytes.{shown, parsed, taking, enter, strike, extremes};
+ghost use Rattle.command.specs.Bytes.{shown, parsed, taking, place, lift, lower, enter, strike, extremes};
 use crate::commands::Command;
 use faults::ReadFault;
 
@@ -10,12 +10,72 @@ pub fn read(bytes: &[u8]) -> Result<(Command, &[u8]), ReadFault>
     ensures { λ r. ⌜ shown r ≡ parsed (now (bytes .entry)) ⌝ }
 {
     match bytes {
+        [0x01, operands @ ..] => read_place(operands),
+        [0x02, operands @ ..] => read_lift(operands),
+        [0x03, operands @ ..] => read_lower(operands),
         [0x04, operands @ ..] => read_enter(operands),
         [0x05, operands @ ..] => read_strike(operands),
         [0x06, operands @ ..] => read_extremes(operands),
         [_, ..] => Err(ReadFault::UnknownCommand),
         [] => Err(ReadFault::CutShort),
     }
+}
+
+fn read_place(operands: &[u8]) -> Result<(Command, &[u8]), ReadFault>
+    ensures { λ r. ⌜ shown r ≡ taking 12 (now (operands .entry)) (place (now (operands .entry))) ⌝ }
+{
+    let [
+        slot,
+        role,
+        t1,
+        t0,
+        b1,
+        b0,
+        h1,
+        h0,
+        f3,
+        f2,
+        f1,
+        f0,
+        rest @ ..,
+    ] = operands
+    else {
+        return Err(ReadFault::CutShort);
+    };
+    let top = u16::from_be_bytes([*t1, *t0]);
+    let breadth = u16::from_be_bytes([*b1, *b0]);
+    let height = u16::from_be_bytes([*h1, *h0]);
+    let fy = u32::from_be_bytes([*f3, *f2, *f1, *f0]);
+    Ok((
+        Command::Place {
+            slot: *slot,
+            role: *role,
+            top,
+            breadth,
+            height,
+            fy,
+        },
+        rest,
+    ))
+}
+
+fn read_lift(operands: &[u8]) -> Result<(Command, &[u8]), ReadFault>
+    ensures { λ r. ⌜ shown r ≡ taking 1 (now (operands .entry)) (lift (now (operands .entry))) ⌝ }
+{
+    let [slot, rest @ ..] = operands else {
+        return Err(ReadFault::CutShort);
+    };
+    Ok((Command::Lift { slot: *slot }, rest))
+}
+
+fn read_lower(operands: &[u8]) -> Result<(Command, &[u8]), ReadFault>
+    ensures { λ r. ⌜ shown r ≡ taking 2 (now (operands .entry)) (lower (now (operands .entry))) ⌝ }
+{
+    let [n1, n0, rest @ ..] = operands else {
+        return Err(ReadFault::CutShort);
+    };
+    let levels = u16::from_be_bytes([*n1, *n0]);
+    Ok((Command::Lower { levels }, rest))
 }
 
 fn read_enter(operands: &[u8]) -> Result<(Command, &[u8]), ReadFault>

@@ -1,1 +1,2 @@
 pub mod LoadEffects
+pub mod Plates

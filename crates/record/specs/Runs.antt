@@ -1,10 +1,10 @@
 -- What one command brings: the ledger after it, and its line or its fault.
 use mathlib.Core.Path.{_≡_}
 use mathlib.Core.Logic.{_⊎_}
-use mathlib.Core.List.{List, [], _++_}
+use mathlib.Core.List.{List, []}
 use Prim.Native.Nat.{ℕ, _-_, _≤_, _<_}
 use lib.IntN.{ℤ}
-use lib.ListN.{length, getD, drop}
+use lib.ListN.{getD}
 use Rattle.std.specs.declared.result.Result.{Result}
 use Rattle.std.specs.declared.result.Result.the-variants.{Ok, Err}
 use Rattle.faults.specs.declared.reading.ReadFault.{ReadFault}
@@ -15,10 +15,10 @@ use Rattle.loads.specs.declared.load_type.LoadType.{LoadType}
 use Rattle.loads.specs.declared.kind.EffectKind.{EffectKind}
 use Rattle.loads.specs.Values.{judged-sixteenths}
 use Rattle.loads.specs.Factors.{states}
-use Rattle.sheet.specs.Ledger.{Ledger, Change, enter, strike, refusal, changed, Answers}
+use Rattle.sheet.specs.Ledger.{Ledger, Change, place, lift, lower, enter, strike, after, Answers}
 use Rattle.questions.specs.Extremes as asked
 use Rattle.command.specs.declared.commands.Command.{Command}
-use Rattle.command.specs.declared.commands.Command.the-variants.{Enter, Strike, Extremes}
+use Rattle.command.specs.declared.commands.Command.the-variants.{Place, Lift, Lower, Enter, Strike, Extremes}
 use Rattle.record.specs.Lines.{extremes-line, Wrote}
 use Rattle.record.specs.Codes.{load-type, effect-kind}
 
@@ -30,10 +30,10 @@ Outcome = Result (List ℕ) RecordFault
 abbrev pub Refused : Ledger → ReadFault → Ledger → Outcome → Type 0
 Refused L f M o = (o ≡ Err (Reading f)) × (M ≡ L)
 
--- a change to the sheet: accepted, it prints nothing; refused, it is the sheet's fault and nothing changes
+-- a change to the sheet: the ledger goes on by the call; accepted, it prints nothing, and refused, it is the sheet's fault
 abbrev pub Changes : Ledger → Change → Ledger → Outcome → Type 0
-Changes L c M (Ok text) = Answers L c (Ok tt) × (M ≡ changed L c) × (text ≡ [])
-Changes L c M (Err (Sheet f)) = Answers L c (Err f) × (M ≡ L)
+Changes L c M (Ok text) = Answers L c (Ok tt) × (M ≡ after L c) × (text ≡ [])
+Changes L c M (Err (Sheet f)) = Answers L c (Err f) × (M ≡ after L c)
 Changes L c M (Err (Part f)) = ⊥
 Changes L c M (Err (Question f)) = ⊥
 Changes L c M (Err (Reading f)) = ⊥
@@ -56,6 +56,9 @@ Asks-extremes L n (Err f) M o = Refused L f M o
 Asks-extremes L n (Ok k) M o = Tells-extremes L n k M o
 
 abbrev pub Runs : Ledger → Command → Ledger → Outcome → Type 0
+Runs L (Place s r t b h g) M o = Changes L (place s (record { role = r; top = t; breadth = b; height = h; fy = g })) M o
+Runs L (Lift s) M o = Changes L (lift s) M o
+Runs L (Lower n) M o = Changes L (lower n) M o
 Runs L (Enter s t e n) M o = Enters L s (load-type t) (effect-kind e) n M o
 Runs L (Strike s) M o = Changes L (strike s) M o
 Runs L (Extremes n e) M o = Asks-extremes L n (effect-kind e) M o

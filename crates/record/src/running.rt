@@ -2,7 +2,8 @@
 ghost use mathlib.Core.Path.{_≡_};
 ghost use Prim.Native.Nat.{_≤_};
 ghost use lib.ListN.{length};
-ghost use Rattle.sheet.specs.Ledger.{ledger, strike};
+ghost use Rattle.sheet.specs.Ledger as calls;
+ghost use Rattle.sheet.specs.Ledger.{ledger};
 ghost use Rattle.record.specs.Codes.{load-type, effect-kind};
 ghost use Rattle.record.specs.Runs.{Reported, Runs, Enters, Changes, Asks-extremes, quiet, no-line};
 use crate::codes::effect_kind;
@@ -15,6 +16,7 @@ use faults::RecordFromRead;
 use faults::RecordFromSheet;
 use loads::Effect;
 use loads::LimitState;
+use sheet::PlateInput;
 use sheet::Sheet;
 
 // Runs a command; its line, where it has one, goes to the front of the buffer, and its length is
@@ -28,6 +30,28 @@ pub(crate) fn run(
     ensures { λ r. ⌜ Reported (Runs (ledger (now (sheet .entry))) command (ledger (now (sheet .exit)))) (now (line .entry)) r (now (line .exit)) ⌝ }
 {
     match command {
+        Command::Place {
+            slot,
+            role,
+            top,
+            breadth,
+            height,
+            fy,
+        } => {
+            no_line(run_place(
+                sheet,
+                slot,
+                PlateInput {
+                    role,
+                    top,
+                    breadth,
+                    height,
+                    fy,
+                },
+            ))
+        }
+        Command::Lift { slot } => no_line(run_lift(sheet, slot)),
+        Command::Lower { levels } => no_line(run_lower(sheet, levels)),
         Command::Enter {
             slot,
             load,
@@ -47,6 +71,27 @@ fn no_line(result: Result<(), RecordFault>) -> Result<usize, RecordFault>
     Ok(0)
 }
 
+fn run_place(sheet: &mut Sheet, slot: u8, plate: PlateInput) -> Result<(), RecordFault>
+    ensures { λ r. ⌜ Changes (ledger (now (sheet .entry))) (calls.place slot plate) (ledger (now (sheet .exit))) (quiet r) ⌝ }
+{
+    sheet.place(slot, plate)?;
+    Ok(())
+}
+
+fn run_lift(sheet: &mut Sheet, slot: u8) -> Result<(), RecordFault>
+    ensures { λ r. ⌜ Changes (ledger (now (sheet .entry))) (calls.lift slot) (ledger (now (sheet .exit))) (quiet r) ⌝ }
+{
+    sheet.lift(slot)?;
+    Ok(())
+}
+
+fn run_lower(sheet: &mut Sheet, levels: u16) -> Result<(), RecordFault>
+    ensures { λ r. ⌜ Changes (ledger (now (sheet .entry))) (calls.lower levels) (ledger (now (sheet .exit))) (quiet r) ⌝ }
+{
+    sheet.lower(levels)?;
+    Ok(())
+}
+
 fn run_enter(
     sheet: &mut Sheet,
     slot: u8,
@@ -63,7 +108,7 @@ fn run_enter(
 }
 
 fn run_strike(sheet: &mut Sheet, slot: u8) -> Result<(), RecordFault>
-    ensures { λ r. ⌜ Changes (ledger (now (sheet .entry))) (strike slot) (ledger (now (sheet .exit))) (quiet r) ⌝ }
+    ensures { λ r. ⌜ Changes (ledger (now (sheet .entry))) (calls.strike slot) (ledger (now (sheet .exit))) (quiet r) ⌝ }
 {
     sheet.strike(slot)?;
     Ok(())

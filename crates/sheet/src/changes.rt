@@ -19,7 +19,10 @@ impl Sheet {
     pub fn new() -> Sheet
         ensures { λ r. ⌜ ledger r ≡ blank ⌝ }
     {
-        Sheet { plates: Plates::new(), rows: Rows::new() }
+        Sheet {
+            plates: Plates::new(),
+            rows: Rows::new(),
+        }
     }
 
     // Puts a plate into a plate slot; refused with 1, 2, 4, 5 or 6.
@@ -136,7 +139,14 @@ impl Sheet {
             return Err(SheetFault::new(SheetReason::SlotFull));
         }
         let sixteenths = effect.sixteenths()?;
-        self.rows.put(slot, Row { load, kind: effect.kind(), sixteenths });
+        self.rows.put(
+            slot,
+            Row {
+                load,
+                kind: effect.kind(),
+                sixteenths,
+            },
+        );
         Ok(())
     }
 

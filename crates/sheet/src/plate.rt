@@ -58,7 +58,10 @@ impl PlateInput {
         ensures { λ r. ⌜ r ≡ plates.is-lawful (now (self .entry)) ⌝ }
     {
         let has_role = 1 <= self.role && self.role <= 4;
-        let sized = 1 <= self.breadth && self.breadth <= 4096 && 1 <= self.height && self.height <= 4096;
+        let sized = 1 <= self.breadth
+            && self.breadth <= 4096
+            && 1 <= self.height
+            && self.height <= 4096;
         let above_end = u32::from(self.top) + u32::from(self.height) <= 4096;
         let yields = 30_000 <= self.fy && self.fy <= 100_000;
         let slender = self.role != 2 || self.breadth <= 64;
@@ -74,7 +77,13 @@ impl PlateInput {
             3 => Role::BottomFlange,
             _ => Role::Other,
         };
-        Plate { role, top: self.top, breadth: self.breadth, height: self.height, fy: self.fy }
+        Plate {
+            role,
+            top: self.top,
+            breadth: self.breadth,
+            height: self.height,
+            fy: self.fy,
+        }
     }
 }
 

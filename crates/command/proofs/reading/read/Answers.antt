@@ -5,6 +5,15 @@ use Rattle.command.specs.Bytes.{parsed}
 use Rattle.command.proofs.Taking.{begins}
 use Rattle.command.proofs.reading.read.Needs as need
 
+pub returns-in-1 : need.returns-in-1
+returns-in-1 c = c .read-place .ensures ∙ sym (ap parsed (begins (c .args .bytes .now) 1 (search needs) (search needs)))
+
+pub returns-in-2 : need.returns-in-2
+returns-in-2 c = c .read-lift .ensures ∙ sym (ap parsed (begins (c .args .bytes .now) 2 (search needs) (search needs)))
+
+pub returns-in-3 : need.returns-in-3
+returns-in-3 c = c .read-lower .ensures ∙ sym (ap parsed (begins (c .args .bytes .now) 3 (search needs) (search needs)))
+
 pub returns-in-4 : need.returns-in-4
 returns-in-4 c = c .read-enter .ensures ∙ sym (ap parsed (begins (c .args .bytes .now) 4 (search needs) (search needs)))
 

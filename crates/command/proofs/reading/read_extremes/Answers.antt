@@ -1,8 +1,7 @@
 -- `command::reading::read_extremes` meets its contract.
-use mathlib.Core.Path.{refl}
 use borrow.Author.Needs.{needs}
 use Rattle.command.proofs.Taking.{taken}
 use Rattle.command.proofs.reading.read_extremes.Needs as need
 
 pub returns : need.returns
-returns c = taken 2 (c .args .operands .now) _ _ (search needs) refl
+returns c = taken 2 (c .args .operands .now) _ _ (search needs) (search needs)

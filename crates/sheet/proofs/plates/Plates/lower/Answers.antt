@@ -37,8 +37,9 @@ loop-slot-again c =
     let now′ = c .loop-slot .slot-items in
     let h : i < length slots = omega (arith, c .args .self .now .long) in
     elim (c .match-slot .came) [
-      in-Some w ↦ w .slot·items-is ∙ over-step f slots now′ i (c .loop-slot .inv) None (Some (w .in-Some .plate)) h (w .in-Some .is)
-    | in-rest w ↦ rw (w .in-rest .is) at (w .slot·items-is) ∙ over-step f slots now′ i (c .loop-slot .inv) None None h (w .in-rest .is) ]
+      | in-Some w ↦ w .slot·items-is ∙ over-step f slots now′ i (c .loop-slot .inv) None (Some (w .in-Some .plate)) h (w .in-Some .is)
+      | in-rest w ↦ rw (w .in-rest .is) at (w .slot·items-is) ∙ over-step f slots now′ i (c .loop-slot .inv) None None h (w .in-rest .is)
+    ]
 
 pub returns : need.returns
 returns c =

@@ -24,8 +24,9 @@ loop-slot-again c =
     let h : i < length slots = omega (arith, c .args .self .now .long) in
     let step = sumBy-more force-in slots i None h in
     elim (c .match-slot .came) [
-      in-Some w ↦ omega (arith, w .sum-is, step, ap force-in (w .in-Some .is), w .force-sum .ensures)
-    | in-rest w ↦ omega (arith, w .sum-is, step, ap force-in (w .in-rest .is)) ]
+      | in-Some w ↦ omega (arith, w .sum-is, step, ap force-in (w .in-Some .is), w .force-sum .ensures)
+      | in-rest w ↦ omega (arith, w .sum-is, step, ap force-in (w .in-rest .is))
+    ]
 
 pub returns : need.returns
 returns c =

@@ -24,8 +24,9 @@ loop-slot-again c =
     let i = c .loop-slot .slot-index in
     let h : i < length slots = omega (arith, c .args .self .now .long) in
     elim (c .match-slot .came) [
-      in-Some·else-would-pass w ↦ sym (some-no f slots i None h (ap f (w .in-Some .is) ∙ sym (w .if-would-pass .ensures tt))) ∙ c .loop-slot .inv
-    | in-rest w ↦ sym (some-no f slots i None h (ap f (w .in-rest .is))) ∙ c .loop-slot .inv ]
+      | in-Some·else-would-pass w ↦ sym (some-no f slots i None h (ap f (w .in-Some .is) ∙ sym (w .if-would-pass .ensures tt))) ∙ c .loop-slot .inv
+      | in-rest w ↦ sym (some-no f slots i None h (ap f (w .in-rest .is))) ∙ c .loop-slot .inv
+    ]
 
 pub returns : need.returns
 returns c =
