@@ -1,0 +1,6 @@
+pub mod Strips
+pub mod Sums
+pub mod Parts
+pub mod Axis
+pub mod Blocks
+pub mod BlockLaws
