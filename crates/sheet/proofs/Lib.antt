@@ -4,3 +4,4 @@ pub mod FirstLine
 pub mod Lowering
 pub mod Roles
 pub mod Kept
+pub mod PlateSums

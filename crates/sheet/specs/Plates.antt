@@ -1,6 +1,6 @@
 -- Plates: their limits, and what the standing ones come to together. Lengths in sixteenths of an inch, yield strength fy in psi.
 use mathlib.Core.Bool.{Bool, true, false, cond, not, _&&_, _||_}
-use mathlib.Core.List.{List, map}
+use mathlib.Core.List.{List, [], _∷_, map}
 use Prim.Native.Nat.{ℕ, _+_, _*_}
 use lib.Dec.{eqb, leb, ltb}
 use Rattle.std.specs.shelf.Lists.{sumBy}
@@ -60,6 +60,15 @@ clash-in r (Some p) = clash r (p .role)
 -- whether a plate stands that a role may not join
 abbrev pub stands : Role → List (Option Plate) → Bool
 stands r xs = some-slot (clash-in r) xs
+
+-- the first standing plate of a role
+abbrev pub same-role : Role → Role → Bool
+same-role a b = eqb (role-number a) (role-number b)
+
+abbrev pub standing : Role → List (Option Plate) → Option Plate
+standing r [] = None
+standing r (None ∷ xs) = standing r xs
+standing r (Some p ∷ xs) = cond (same-role (p .role) r) (Some p) (standing r xs)
 
 -- whether a plate's foot would pass 4,096, lowered by n
 abbrev pub passes-in : ℕ → Option Plate → Bool

@@ -3,7 +3,7 @@ ghost use Rattle.sheet.specs.Invariants.{Light, Within, Once};
 use crate::plates::Plates;
 use crate::rows::Rows;
 
-#[derive(Clone, Copy)]
+#[derive(Drop)]
 pub struct Sheet {
     pub(crate) plates: Plates,
     pub(crate) rows: Rows,

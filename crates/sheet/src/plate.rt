@@ -43,6 +43,12 @@ impl Role {
         }
     }
 
+    pub(crate) fn is(self, other: Role) -> bool
+        ensures { λ r. ⌜ r ≡ plates.same-role self other ⌝ }
+    {
+        self.number() == other.number()
+    }
+
     // Whether the two may not both stand.
     pub(crate) fn clashes(self, other: Role) -> bool
         ensures { λ r. ⌜ r ≡ plates.clash self other ⌝ }

@@ -5,7 +5,7 @@ ghost use Prim.Native.Nat.{_^_, _<_, _≤_};
 ghost use lib.ListN.{length, set};
 ghost use Rattle.std.specs.declared.option.Option.the-variants.{Some, None};
 ghost use Rattle.sheet.specs.Slots.{empties, full, content};
-ghost use Rattle.sheet.specs.Plates.{total-force, stands, passes, lowered};
+ghost use Rattle.sheet.specs.Plates.{total-force, stands, standing, passes, lowered};
 use crate::plate::Plate;
 use crate::plate::Role;
 
@@ -76,6 +76,20 @@ impl Plates {
             }
         }
         false
+    }
+
+    // The first standing plate of a role.
+    pub(crate) fn with_role(&self, role: Role) -> Option<Plate>
+        ensures { λ r. ⌜ r ≡ standing role (now (self .entry) .slots) ⌝ }
+    {
+        for slot in &self.slots {
+            if let Some(plate) = slot {
+                if plate.role.is(role) {
+                    return Some(*plate);
+                }
+            }
+        }
+        None
     }
 
     // Whether a standing plate would pass level 4,096, lowered by n.

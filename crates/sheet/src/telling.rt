@@ -5,10 +5,12 @@ ghost use lib.IntN.{pos, natAbs};
 ghost use lib.ListN.{getD};
 ghost use Rattle.loads.specs.declared.load_type.LoadType.{LoadType as LoadTypes};
 ghost use Rattle.loads.specs.Factors.{index};
+ghost use Rattle.sheet.specs.Plates.{standing};
 ghost use Rattle.sheet.specs.Totals.{type-sum};
 ghost use Rattle.sheet.specs.Ledger.{ledger, Shows};
 use crate::held::Sheet;
 use crate::plate::Plate;
+use crate::plate::Role;
 use crate::row::Row;
 use faults::SheetFault;
 use faults::SheetReason;
@@ -23,6 +25,13 @@ impl Sheet {
             return Err(SheetFault::new(SheetReason::NoSlot).at_slot(slot));
         }
         Ok(self.plates.get(slot))
+    }
+
+    // The standing plate of a role, of several the one in the first slot.
+    pub fn with_role(&self, role: Role) -> Option<Plate>
+        ensures { λ r. ⌜ r ≡ standing role (ledger (now (self .entry)) .plates) ⌝ }
+    {
+        self.plates.with_role(role)
     }
 
     // What stands in an effect slot; refused with 1.
