@@ -3,10 +3,11 @@ use mathlib.Core.Path.{_≡_, refl, sym, ap, _∙_, subst}
 use mathlib.Core.Bool.{Bool, true, false, cond}
 use mathlib.Core.List.{List, [], _∷_}
 use Prim.Native.Nat.{ℕ, _*_, _≤_}
+use native.Mathlib.Nat.{mul-le-mul-left}
 use native.Mathlib.Omega.{arith}
 use lib.IntN.{ℤ, pos, negsuc, _+ℤ_, _*ℤ_}
-use lib.Signed.{_≤ℤ_}
-use borrow.Author.Differences.{ints, sum-is}
+use lib.Signed.{_≤ℤ_, _<ℤ_, ltZ}
+use borrow.Author.Differences.{ints, sum-is, le-out}
 use lib.Dec.{eqb}
 use Rattle.std.specs.declared.option.Option.{Option}
 use Rattle.std.specs.declared.option.Option.the-variants.{Some, None}
@@ -17,7 +18,8 @@ use Rattle.loads.specs.Factors.{index, range, Lawful}
 use Rattle.loads.specs.Kinds.{same-kind}
 use Rattle.sheet.specs.declared.row.Row.{Row}
 use Rattle.sheet.specs.Totals.{total, adds, type-sum}
-use Rattle.questions.specs.Extremes.{Choice, Chosen, times, factored-slot, factored, Extremes, least, greatest}
+use Rattle.questions.specs.Extremes.{Choice, Chosen, times, factored-slot, factored, Extremes}
+use Rattle.questions.specs.Products.{least, greatest}
 use Rattle.questions.proofs.Products.{least-below, greatest-above, low-factor, high-factor, low-factor-meets, high-factor-meets, low-factor-within, high-factor-within}
 
 -- the four load types added
@@ -32,6 +34,9 @@ four-le f g h = let a = h Dc in let b = h Dw in let c = h Ll in let d = h Ws in 
 
 times-add : (n : ℕ) (a b : ℤ) → times n (a +ℤ b) ≡ times n a +ℤ times n b
 times-add n a b = omega (arith, ints, ap (λ (x : ℕ). n * x) (sum-is a b))
+
+times-le : (n : ℕ) (a b : ℤ) → a ≤ℤ b → times n a ≤ℤ times n b
+times-le n a b h = omega (arith, ints, mul-le-mul-left n (le-out a b h))
 
 -- a slot's share is one type's
 slot-by-types : (c : Choice) (k : EffectKind) (o : Option Row) → factored-slot c k o ≡ four (λ t. times (c t) (adds t k o))
@@ -82,3 +87,10 @@ extremes-are fs k rows lawful = record {
 pub extremes-from : (fs : List (ℕ × ℕ)) (k : EffectKind) (rows : List (Option Row)) (low high : ℤ) → Lawful fs →
     low ≡ four (λ t. least (range fs t) (type-sum t k rows)) → high ≡ four (λ t. greatest (range fs t) (type-sum t k rows)) → Extremes fs k rows low high
 extremes-from fs k rows low high lawful p q = rw (p, q) (extremes-are fs k rows lawful)
+
+-- the greatest sum stands for all: where it does not exceed a bound, no choice's sum does
+pub none-above : (fs : List (ℕ × ℕ)) (k : EffectKind) (rows : List (Option Row)) (low high : ℤ) (m n : ℕ) → Extremes fs k rows low high → ltZ (pos m) (times n high) ≡ false →
+    (choice : Choice) → Chosen fs choice → pos m <ℤ times n (factored choice k rows) → ⊥
+none-above fs k rows low high m n e below choice chosen x =
+    let b = e .between choice chosen .1 in
+    omega (arith, ints, times-le n (factored choice k rows) high b)

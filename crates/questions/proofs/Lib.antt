@@ -1,2 +1,3 @@
 pub mod Products
 pub mod Choices
+pub mod Depths

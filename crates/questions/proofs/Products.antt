@@ -15,7 +15,8 @@ use borrow.Author.Differences.{ints}
 use Rattle.std.specs.Numbers.{minZ, maxZ}
 use Rattle.std.proofs.shelf.Signed.{clamps}
 use Rattle.loads.specs.Factors.{Range}
-use Rattle.questions.specs.Extremes.{times, least, greatest, Small}
+use Rattle.questions.specs.Extremes.{times}
+use Rattle.questions.specs.Products.{least, greatest, Small}
 
 pub halves : (s : ℤ) (h : ℕ) → natAbs s ≤ h → (diff.up s ≤ h) × (diff.down s ≤ h)
 halves (pos n) h l = omega arith

@@ -2,10 +2,9 @@
 use mathlib.Core.Path.{_≡_}
 use mathlib.Core.Bool.{cond}
 use mathlib.Core.List.{List}
-use Prim.Native.Nat.{ℕ, _*_, _^_, _≤_}
-use lib.IntN.{ℤ, pos, natAbs, _*ℤ_}
+use Prim.Native.Nat.{ℕ, _≤_}
+use lib.IntN.{ℤ, pos, _*ℤ_}
 use lib.Signed.{_≤ℤ_}
-use Rattle.std.specs.Numbers.{minZ, maxZ}
 use Rattle.std.specs.declared.option.Option.{Option}
 use Rattle.std.specs.declared.option.Option.the-variants.{Some, None}
 use Rattle.loads.specs.declared.load_type.LoadType.{LoadType}
@@ -40,14 +39,3 @@ pub record Extremes (factors : List (ℕ × ℕ)) (k : EffectKind) (rows : List 
   pub between : (choice : Choice) → Chosen factors choice → (low ≤ℤ factored choice k rows) × (factored choice k rows ≤ℤ high)
   pub low-met : (choice : Choice) × Chosen factors choice × (factored choice k rows ≡ low)
   pub high-met : (choice : Choice) × Chosen factors choice × (factored choice k rows ≡ high)
-
--- one load type: the least and the greatest product of its sum with a factor of its range
-abbrev pub least : ℕ × ℕ → ℤ → ℤ
-least r s = minZ (times (r .0) s) (times (r .1) s)
-
-abbrev pub greatest : ℕ × ℕ → ℤ → ℤ
-greatest r s = maxZ (times (r .0) s) (times (r .1) s)
-
--- a product of a factor with a sum of 64 rows
-abbrev pub Small : ℤ → Type 0
-Small z = natAbs z ≤ 1000 * 2 ^ 37

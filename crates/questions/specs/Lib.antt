@@ -1,1 +1,4 @@
 pub mod Extremes
+pub mod Products
+pub mod Together
+pub mod Bending

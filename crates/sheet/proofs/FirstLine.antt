@@ -6,7 +6,7 @@ use mathlib.Core.List.{List, [], _∷_}
 use Prim.Native.Nat.{ℕ, zero, suc, _+_, _≤_, _<_}
 use native.Mathlib.Omega.{arith}
 use lib.Dec.{eqb}
-use borrow.Author.Tests.{ne-eqb}
+use borrow.Author.Tests.{ne-eqb, clash}
 use Rattle.std.proofs.shelf.Tests.{cases-lt, cases-eq}
 use Rattle.std.specs.declared.option.Option.{Option}
 use Rattle.std.specs.declared.option.Option.the-variants.{Some, None}
@@ -14,7 +14,7 @@ use Rattle.std.specs.declared.result.Result.{Result}
 use Rattle.std.specs.declared.result.Result.the-variants.{Ok, Err}
 use Rattle.faults.specs.declared.sheet.SheetFault.{SheetFault}
 use Rattle.faults.specs.Numbers.{sheet-number}
-use Rattle.sheet.specs.Ledger.{Ledger, Change, slot-of, applies, Refused, Accepted, first-of, refusal, Refuses, Answers}
+use Rattle.sheet.specs.Ledger.{Ledger, Change, slot-of, applies, Refused, Accepted, first-of, refusal, changed, unless, after, Answers}
 
 -- k numbers from a on
 up-from : ℕ → ℕ → List ℕ
@@ -77,3 +77,14 @@ module _ (L : Ledger) (c : Change) where
   -- a fault that has been given the call's slot
   pub answered : (f g : SheetFault) (s : ℕ) → refusal L c ≡ Some (sheet-number f) → g ≡ record { reason = f .reason; slot = Some s } → Some s ≡ slot-of c → Answers L c (Err g)
   answered f g s e is named = subst (λ (x : SheetFault). Refused L c (sheet-number x) × (x .slot ≡ slot-of c)) (sym is) (refused (sheet-number f) e, named)
+
+  -- what a call leaves, by its answer
+  pub after-accepted : Accepted L c → after L c ≡ changed L c
+  after-accepted a = ap (λ (o : Option ℕ). unless o L (changed L c)) (accepted-back a)
+
+  pub after-refused : (n : ℕ) → Refused L c n → after L c ≡ L
+  after-refused n r = go (refusal L c) refl
+    where
+      go : (o : Option ℕ) → refusal L c ≡ o → unless o L (changed L c) ≡ L
+      go (Some m) e = refl
+      go None e = absurd (clash (sym (accepted e n) ∙ r .this))

@@ -55,5 +55,5 @@ plates-laws = record {
   pulls-end = λ s i h. strips-end (s .plates .slots) (s .within) i h;
   pushes-light = λ s. let l = s .light in omega (arith, strips-sum (s .plates .slots) (s .within));
   pulls-light = λ s. let l = s .light in omega (arith, strips-sum (s .plates .slots) (s .within));
-  weaker-pull = λ s i. omega arith
+  weaker-pull = λ s i. omega arith;
 }

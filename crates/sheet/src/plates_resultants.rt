@@ -21,7 +21,11 @@ impl Plate {
         ensures height { λ r. ⌜ r .height ≡ now (self .entry) .height ⌝ }
         ensures strength { λ r. ⌜ r .strength ≡ now (self .entry) .breadth * now (self .entry) .fy ⌝ }
     {
-        match Block::new(self.top, self.height, u64::from(self.breadth) * u64::from(self.fy)) {
+        match Block::new(
+            self.top,
+            self.height,
+            u64::from(self.breadth) * u64::from(self.fy),
+        ) {
             Some(block) => block,
             None => unreachable(),
         }
@@ -60,6 +64,10 @@ impl Plates {
                 moment += one.moment;
             }
         }
-        Resultants { above, below, moment }
+        Resultants {
+            above,
+            below,
+            moment,
+        }
     }
 }

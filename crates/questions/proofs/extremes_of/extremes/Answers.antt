@@ -7,7 +7,7 @@ use Rattle.loads.specs.declared.load_type.LoadType.{LoadType}
 use Rattle.loads.specs.declared.load_type.LoadType.the-variants.{Dc, Dw, Ll, Ws}
 use Rattle.loads.specs.Factors.{index, range}
 use Rattle.sheet.specs.Totals.{type-sum}
-use Rattle.questions.specs.Extremes.{least, greatest, Small}
+use Rattle.questions.specs.Products.{least, greatest, Small}
 use Rattle.questions.proofs.Products.{bits, sum-bits, small-bits, total-is}
 use Rattle.questions.proofs.Choices.{extremes-from}
 use Rattle.questions.proofs.extremes_of.extremes.Needs as need

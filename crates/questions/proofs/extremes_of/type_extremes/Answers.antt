@@ -6,7 +6,8 @@ use mir.Syntax.{w64}
 use mir.Val.{SFits}
 use mir.Facts.{toZ-ofZ}
 use Rattle.loads.specs.Factors.{range, Range}
-use Rattle.questions.specs.Extremes.{times, least, greatest}
+use Rattle.questions.specs.Extremes.{times}
+use Rattle.questions.specs.Products.{least, greatest}
 use Rattle.questions.proofs.Products.{product-fits, factor, least-small, greatest-small, at-most}
 use Rattle.questions.proofs.extremes_of.type_extremes.Needs as need
 

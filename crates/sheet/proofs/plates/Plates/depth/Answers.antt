@@ -27,12 +27,13 @@ loop-slot-again c =
     let i = c .loop-slot .slot-index in
     let h : i < length xs = omega (arith, c .args .self .now .long) in
     elim (c .match-slot .came) [
-      in-Some w ↦
-        subst (IsDepth (plate-strips (take (i + 1) xs)) (plate-strips (take (i + 1) xs))) (sym (w .deepest-is ∙ w .max-deepest .ensures))
-        (depth-next xs i h (w .in-Some .plate) (w .in-Some .is) (w .block .result) (record { top = w .block .ensures .top; height = w .block .ensures .height; strength = w .block .ensures .strength })
-        (c .loop-slot .deepest) (w .depth .result) (c .loop-slot .inv) (w .depth .ensures))
-    | in-rest w ↦
-        subst (λ f. IsDepth f f (c .match-slot .deepest)) (sym (next-none xs i h (w .in-rest .is))) (subst (IsDepth (plate-strips (take i xs)) (plate-strips (take i xs))) (sym (w .deepest-is)) (c .loop-slot .inv)) ]
+      | in-Some w ↦
+          subst (IsDepth (plate-strips (take (i + 1) xs)) (plate-strips (take (i + 1) xs))) (sym (w .deepest-is ∙ w .max-deepest .ensures))
+          (depth-next xs i h (w .in-Some .plate) (w .in-Some .is) (w .block .result) (record { top = w .block .ensures .top; height = w .block .ensures .height; strength = w .block .ensures .strength })
+          (c .loop-slot .deepest) (w .depth .result) (c .loop-slot .inv) (w .depth .ensures))
+      | in-rest w ↦
+          subst (λ f. IsDepth f f (c .match-slot .deepest)) (sym (next-none xs i h (w .in-rest .is))) (subst (IsDepth (plate-strips (take i xs)) (plate-strips (take i xs))) (sym (w .deepest-is)) (c .loop-slot .inv))
+    ]
 
 pub returns : need.returns
 returns c =

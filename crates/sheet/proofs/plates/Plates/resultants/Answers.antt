@@ -48,11 +48,12 @@ loop-slot-again c =
     let i = c .loop-slot .slot-index in
     let h : i < length xs = omega (arith, c .args .self .now .long) in
     elim (c .match-slot .came) [
-      in-Some w ↦ λ s.
-        rw (w .above-is, w .below-is, w .moment-is)
-        (resultants-next xs i h (w .in-Some .plate) (w .in-Some .is) (w .block .result) (record { top = w .block .ensures .top; height = w .block .ensures .height; strength = w .block .ensures .strength })
-        s (min (c .args .level) 4096) _ (w .resultants-one .result) (c .loop-slot .inv s) (w .resultants-one .ensures s))
-    | in-rest w ↦ λ s. rw (w .above-is, w .below-is, w .moment-is) (rw (next-none xs i h (w .in-rest .is)) (c .loop-slot .inv s)) ]
+      | in-Some w ↦ λ s.
+          rw (w .above-is, w .below-is, w .moment-is)
+          (resultants-next xs i h (w .in-Some .plate) (w .in-Some .is) (w .block .result) (record { top = w .block .ensures .top; height = w .block .ensures .height; strength = w .block .ensures .strength })
+          s (min (c .args .level) 4096) _ (w .resultants-one .result) (c .loop-slot .inv s) (w .resultants-one .ensures s))
+      | in-rest w ↦ λ s. rw (w .above-is, w .below-is, w .moment-is) (rw (next-none xs i h (w .in-rest .is)) (c .loop-slot .inv s))
+    ]
 
 pub returns : need.returns
 returns c =

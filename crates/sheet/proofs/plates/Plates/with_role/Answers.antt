@@ -22,8 +22,9 @@ loop-slot-again c =
     let i = c .loop-slot .slot-index in
     let h : i < length xs = omega (arith, c .args .self .now .long) in
     elim (c .match-slot .came) [
-      in-Some·else-is w ↦ sym (standing-other (c .args .role) xs i (w .in-Some .plate) h (w .in-Some .is) (sym (w .if-is .ensures tt))) ∙ c .loop-slot .inv
-    | in-rest w ↦ sym (standing-none (c .args .role) xs i h (w .in-rest .is)) ∙ c .loop-slot .inv ]
+      | in-Some·else-is w ↦ sym (standing-other (c .args .role) xs i (w .in-Some .plate) h (w .in-Some .is) (sym (w .if-is .ensures tt))) ∙ c .loop-slot .inv
+      | in-rest w ↦ sym (standing-none (c .args .role) xs i h (w .in-rest .is)) ∙ c .loop-slot .inv
+    ]
 
 pub returns : need.returns
 returns c =
