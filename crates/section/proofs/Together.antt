@@ -6,7 +6,7 @@ use native.Mathlib.Omega.{arith}
 use Rattle.section.specs.declared.sense.Sense.{Sense}
 use Rattle.section.specs.declared.sense.Sense.the-variants.{Sagging, Hogging}
 use Rattle.section.specs.declared.resultants.Resultants.{Resultants}
-use Rattle.section.specs.Strips.{sumTo, forceAbove, forceBelow, momentAbove, momentBelow, momentAt, _⊕_, strengthAbove, strengthBelow}
+use Rattle.section.specs.Strips.{sumTo, forceAbove, forceBelow, momentAbove, momentBelow, momentAt, noStrips, _⊕_, strengthAbove, strengthBelow}
 use Rattle.section.specs.Parts.{EndsBy, IsDepth, IsResultants}
 use Rattle.section.specs.Sums.{sumTo-cong, sumTo-add, sumTo-le, sumTo-split, sumTo-times, zeros}
 
@@ -107,10 +107,10 @@ depth-both p q r t a b x y = record {
 }
 
 -- no strips
-pub depth-none : IsDepth (λ _. 0) (λ _. 0) 0
+pub depth-none : IsDepth noStrips noStrips 0
 depth-none = record { past = λ i l. (refl, refl); least = λ d h. omega arith }
 
-pub resultants-none : (s : Sense) (k : ℕ) → k ≤ 4096 → IsResultants s (λ _. 0) (λ _. 0) k (record { above = 0; below = 0; moment = 0 })
+pub resultants-none : (s : Sense) (k : ℕ) → k ≤ 4096 → IsResultants s noStrips noStrips k (record { above = 0; below = 0; moment = 0 })
 resultants-none s k l =
     let z = zeros (λ _. 0) 4096 (λ _ _. refl) in
     let sa = strengthAbove-sum s (λ _. 0) (λ _. 0) 4096 0 (omega arith) (omega arith) in
