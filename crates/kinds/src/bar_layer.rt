@@ -1,6 +1,8 @@
 // A layer of reinforcing bars in one strip.
 ghost use Rattle.kinds.specs.Decks.{LayerBlock};
 use section::Block;
+use section::GREATEST_YIELD;
+use section::LEAST_YIELD;
 
 #[derive(Clone, Copy)]
 pub struct BarLayer {
@@ -15,7 +17,10 @@ impl BarLayer {
     pub(crate) fn block(&self) -> Option<Block>
         ensures { λ r. ⌜ LayerBlock (now (self .entry)) r ⌝ }
     {
-        if self.area < 1 || self.yield_strength < 30_000 || self.yield_strength > 100_000 {
+        if self.area < 1
+            || self.yield_strength < LEAST_YIELD
+            || self.yield_strength > GREATEST_YIELD
+        {
             return None;
         }
         Block::new(self.strip, 1, self.area as u64 * self.yield_strength as u64)

@@ -10,11 +10,13 @@ ghost use Rattle.kinds.specs.DeckLaws.{deck-laws};
 use crate::bar_layer::BarLayer;
 use crate::cracked::Cracked;
 use crate::deck::Deck;
+use crate::deck::LAYERS;
 use crate::slab::Slab;
 use faults::PartFault;
 use section::Block;
 use section::Part;
 use section::Resultants;
+use section::STRONGEST;
 use section::Sense;
 
 impl Deck {
@@ -24,7 +26,7 @@ impl Deck {
     {
         Deck {
             slab: Block::empty(),
-            bars: [Block::empty(); 6],
+            bars: [Block::empty(); LAYERS],
         }
     }
 
@@ -40,13 +42,13 @@ impl Deck {
     fn filled(slab: Slab, layers: &[BarLayer]) -> Result<Deck, PartFault>
         ensures { λ r. ⌜ Filled slab (now (layers .entry)) r ⌝ }
     {
-        if layers.len() > 6 {
+        if layers.len() > LAYERS {
             return Err(PartFault::OutsideLimits);
         }
         let Some(block) = slab.block() else {
             return Err(PartFault::OutsideLimits);
         };
-        let mut bars = [Block::empty(); 6];
+        let mut bars = [Block::empty(); LAYERS];
         let mut total = block.total();
         for (i, layer) in layers.iter().enumerate() {
             let Some(bar) = layer.block() else {
@@ -55,7 +57,7 @@ impl Deck {
             total += bar.total();
             bars[i] = bar;
         }
-        if total > 68_719_476_736 {
+        if total > STRONGEST {
             return Err(PartFault::OutsideLimits);
         }
         Ok(Deck { slab: block, bars })

@@ -8,8 +8,12 @@ ghost use Rattle.section.specs.Strips.{noStrips};
 ghost use Rattle.kinds.specs.Shapes.{Broad, ShapeFits, Tried, tableStrip};
 ghost use Rattle.kinds.specs.ShapeLaws.{shape-laws};
 use faults::PartFault;
+use section::GREATEST_YIELD;
+use section::LEAST_YIELD;
+use section::LOWEST;
 use section::Part;
 use section::Resultants;
+use section::STRONGEST;
 use section::Sense;
 
 #[derive(Drop)]
@@ -29,7 +33,7 @@ impl<'a> Shape<'a> {
     {
         Shape {
             top: 0,
-            yield_strength: 30_000,
+            yield_strength: LEAST_YIELD,
             breadths: &[],
         }
     }
@@ -38,10 +42,10 @@ impl<'a> Shape<'a> {
     pub fn tried(top: u16, yield_strength: u32, breadths: &[u16]) -> Result<(), PartFault>
         ensures { λ r. ⌜ Tried top «yield_strength» (now (breadths .entry)) r ⌝ }
     {
-        if top > 4096 || breadths.len() > (4096 - top) as usize {
+        if top > LOWEST || breadths.len() > (LOWEST - top) as usize {
             return Err(PartFault::OutsideLimits);
         }
-        if yield_strength < 30_000 || yield_strength > 100_000 {
+        if yield_strength < LEAST_YIELD || yield_strength > GREATEST_YIELD {
             return Err(PartFault::OutsideLimits);
         }
         let mut total: u64 = 0;
@@ -51,7 +55,7 @@ impl<'a> Shape<'a> {
             }
             total += *breadth as u64;
         }
-        if total * yield_strength as u64 > 68_719_476_736 {
+        if total * yield_strength as u64 > STRONGEST {
             return Err(PartFault::OutsideLimits);
         }
         Ok(())
@@ -89,7 +93,7 @@ pub impl Part for Shape<'_> as ShapePart {
     }
 
     fn resultants(&self, _sense: Sense, level: u16) -> Resultants {
-        let level = level.min(4096);
+        let level = level.min(LOWEST);
         let mut above: u64 = 0;
         let mut below: u64 = 0;
         let mut moment: u64 = 0;

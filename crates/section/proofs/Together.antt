@@ -7,7 +7,7 @@ use Rattle.section.specs.declared.sense.Sense.{Sense}
 use Rattle.section.specs.declared.sense.Sense.the-variants.{Sagging, Hogging}
 use Rattle.section.specs.declared.resultants.Resultants.{Resultants}
 use Rattle.section.specs.Strips.{sumTo, forceAbove, forceBelow, momentAbove, momentBelow, momentAt, noStrips, _⊕_, strengthAbove, strengthBelow}
-use Rattle.section.specs.Parts.{EndsBy, IsDepth, IsResultants}
+use Rattle.section.specs.Parts.{Lawful, IsDepth, IsResultants}
 use Rattle.section.specs.Sums.{sumTo-cong, sumTo-add, sumTo-le, sumTo-split, sumTo-times, zeros}
 
 above-both : (s : Sense) (p q r t : ℕ → ℕ) → strengthAbove s (p ⊕ q) (r ⊕ t) ≡ strengthAbove s p r ⊕ strengthAbove s q t
@@ -83,6 +83,11 @@ resultants-small s p q k r x y h =
     let sa = strengthAbove-sum s p q 4096 (2 ^ 36) x y in
     let sb = strengthBelow-sum s p q 4096 (2 ^ 36) x y in
     (omega arith, omega arith, omega arith)
+
+-- so of any lawful part
+pub lawful-small : {S : Type 0} {pushes pulls : S → ℕ → ℕ} → Lawful pushes pulls → (x : S) (s : Sense) (k : ℕ) (r : Resultants) → IsResultants s (pushes x) (pulls x) (min k 4096) r →
+    (r .above ≤ 2 ^ 36) × (r .below ≤ 2 ^ 36) × (r .moment ≤ 2 ^ 50)
+lawful-small laws x s k r h = resultants-small s _ _ k r (laws .pushes-light x) (laws .pulls-light x) h
 
 -- the resultants of two parts together are the sums of theirs
 pub resultants-both : (s : Sense) (p q r t : ℕ → ℕ) (k : ℕ) (a b : Resultants) → IsResultants s p r k a → IsResultants s q t k b →

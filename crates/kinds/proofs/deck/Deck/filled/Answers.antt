@@ -19,8 +19,8 @@ pub returns-in-rest-block : need.returns-in-rest-block
 returns-in-rest-block c =
     (refl, λ f. c .in-rest-block .ensures tt (fit-at _ _ _ (c .loop-i-test .taken) (f .layers-fit)) (light-at _ _ _ _ (c .loop-i-test .taken) f))
 
-pub returns-then-total-gt68719476736 : need.returns-then-total-gt68719476736
-returns-then-total-gt68719476736 c =
+pub returns-then-total-gt-STRONGEST : need.returns-then-total-gt-STRONGEST
+returns-then-total-gt-STRONGEST c =
     (refl, put-heavy (c .args .slab) (c .args .layers .now) (c .in-Some .block) (c .in-Some .ensures tt) (c .loop-i .i) (c .loop-i .bars) (c .loop-i .total) (c .loop-i .inv) (c .loop-i-test .left) (omega arith))
 
 pub returns : need.returns

@@ -13,8 +13,8 @@ loop-breadth-again c =
     let s = sumBy-more (λ x. x) (c .args .breadths .now) (c .loop-breadth .breadth-index) 0 (c .loop-breadth-test .taken) in
     (omega arith, omega arith, below-more _ _ (c .loop-breadth .inv .2) (omega arith, omega arith))
 
-pub returns-then-total-yield-strength-gt68719476736 : need.returns-then-total-yield-strength-gt68719476736
-returns-then-total-yield-strength-gt68719476736 c =
+pub returns-then-total-yield-strength-gt-STRONGEST : need.returns-then-total-yield-strength-gt-STRONGEST
+returns-then-total-yield-strength-gt-STRONGEST c =
     let e : c .loop-breadth .total ≡ sum (c .args .breadths .now) = c .loop-breadth .inv .0 ∙ ap sum (take-all _ _ (c .loop-breadth-test .left)) in
     let m = ap (λ n. n * c .args .yield-strength) e in
     (refl, λ f. let h = f .light in omega arith)
