@@ -4,3 +4,4 @@ pub mod Together
 pub mod Search
 pub mod Unique
 pub mod ClosedForm
+pub mod Stacks

@@ -1,5 +1,5 @@
 -- The search for the axis by halves: what each turn knows, and what the end shows.
-use mathlib.Core.Path.{_≡_}
+use mathlib.Core.Path.{_≡_, refl}
 use Prim.Native.Nat.{ℕ, zero, suc, _+_, _-_, _<_, _≤_, min}
 use native.Mathlib.Omega.{arith}
 use Rattle.std.specs.declared.result.Result.{Result}
@@ -7,7 +7,7 @@ use Rattle.std.specs.declared.result.Result.the-variants.{Ok, Err}
 use Rattle.faults.specs.declared.question.QuestionFault.{QuestionFault}
 use Rattle.section.specs.declared.sense.Sense.{Sense}
 use Rattle.section.specs.declared.resultants.Resultants.{Resultants}
-use Rattle.section.specs.Strips.{forceAbove, forceBelow, momentAt, imbalanceAt, strengthAbove, strengthBelow}
+use Rattle.section.specs.Strips.{forceAbove, forceBelow, momentAt, imbalanceAt, momentIn, imbalanceIn, strengthAbove, strengthBelow}
 use Rattle.section.specs.Parts.{IsResultants}
 use Rattle.section.specs.Axis.{IsAxis, LacksMoment, AxisAnswer, Judged}
 use Rattle.section.proofs.Levels.{moment-step, above-le, below-ge}
@@ -43,7 +43,24 @@ module _ (s : Sense) (p q : ℕ → ℕ) where
       let b = rw e at (h .below-is) in
       record { ordered = o; bounded = omega arith; lighter = r .lighter; heavier = λ _. omega arith }
 
-  -- the level is a turning one: it is the axis if its moment is not 0
+  -- a level that turns the moment is the axis
+  pub turning-axis : (k : ℕ) → k ≤ 4096 →
+      (k < 4096 → forceBelow 4096 (strengthBelow s p q) k + forceBelow 4096 (strengthBelow s p q) (suc k) ≤ forceAbove (strengthAbove s p q) k + forceAbove (strengthAbove s p q) (suc k)) →
+      ((j : ℕ) → suc j ≡ k → forceAbove (strengthAbove s p q) j + forceAbove (strengthAbove s p q) k < forceBelow 4096 (strengthBelow s p q) j + forceBelow 4096 (strengthBelow s p q) k) →
+      IsAxis s p q (k, momentIn s p q k, imbalanceIn s p q k)
+  turning-axis k w rise fall =
+      let up : ℕ → ℕ = strengthAbove s p q in
+      let down : ℕ → ℕ = strengthBelow s p q in
+      record {
+        within = w;
+        moment-is = refl;
+        imbalance-is = refl;
+        least = least 4096 up down k w rise fall;
+        first = before 4096 up down k w rise fall;
+        even = even 4096 up down k w rise fall;
+      }
+
+  -- so the answer of its resultants is the axis answer
   settled : (k : ℕ) (t : Resultants) (r : Result (ℕ × ℕ × ℕ) QuestionFault) → k ≤ 4096 →
       (k < 4096 → forceBelow 4096 (strengthBelow s p q) k + forceBelow 4096 (strengthBelow s p q) (suc k) ≤ forceAbove (strengthAbove s p q) k + forceAbove (strengthAbove s p q) (suc k)) →
       ((j : ℕ) → suc j ≡ k → forceAbove (strengthAbove s p q) j + forceAbove (strengthAbove s p q) k < forceBelow 4096 (strengthBelow s p q) j + forceBelow 4096 (strengthBelow s p q) k) →
@@ -54,19 +71,7 @@ module _ (s : Sense) (p q : ℕ → ℕ) where
       let ta = rw e at (h .above-is) in
       let tb = rw e at (h .below-is) in
       let tm = rw e at (h .moment-is) in
-      let up : ℕ → ℕ = strengthAbove s p q in
-      let down : ℕ → ℕ = strengthBelow s p q in
-      rw (c .1) (
-        record {
-          within = w;
-          moment-is = tm;
-          imbalance-is = rw (ta, tb);
-          least = λ j l. omega (arith, least 4096 up down k w rise fall j l);
-          first = λ j l. omega (arith, before 4096 up down k w rise fall j l);
-          even = λ j l. rw (ta, tb) (even 4096 up down k w rise fall j l);
-        },
-        c .0,
-      )
+      rw (c .1) (rw (tm, ta, tb) (turning-axis k w rise fall), c .0)
   settled k t (Err f) w rise fall h c =
       let e : min k 4096 ≡ k = omega arith in
       let tm = rw e at (h .moment-is) in

@@ -6,8 +6,8 @@ use native.Mathlib.Omega.{arith}
 use Rattle.section.specs.declared.sense.Sense.{Sense}
 use Rattle.section.specs.declared.sense.Sense.the-variants.{Sagging, Hogging}
 use Rattle.section.specs.declared.resultants.Resultants.{Resultants}
-use Rattle.section.specs.Strips.{sumTo, forceAbove, forceBelow, momentAbove, momentBelow, momentAt, _⊕_, strengthAbove, strengthBelow}
-use Rattle.section.specs.Parts.{EndsBy, IsDepth, IsResultants}
+use Rattle.section.specs.Strips.{sumTo, forceAbove, forceBelow, momentAbove, momentBelow, momentAt, noStrips, _⊕_, strengthAbove, strengthBelow}
+use Rattle.section.specs.Parts.{Lawful, IsDepth, IsResultants}
 use Rattle.section.specs.Sums.{sumTo-cong, sumTo-add, sumTo-le, sumTo-split, sumTo-times, zeros}
 
 above-both : (s : Sense) (p q r t : ℕ → ℕ) → strengthAbove s (p ⊕ q) (r ⊕ t) ≡ strengthAbove s p r ⊕ strengthAbove s q t
@@ -84,6 +84,11 @@ resultants-small s p q k r x y h =
     let sb = strengthBelow-sum s p q 4096 (2 ^ 36) x y in
     (omega arith, omega arith, omega arith)
 
+-- so of any lawful part
+pub lawful-small : {S : Type 0} {pushes pulls : S → ℕ → ℕ} → Lawful pushes pulls → (x : S) (s : Sense) (k : ℕ) (r : Resultants) → IsResultants s (pushes x) (pulls x) (min k 4096) r →
+    (r .above ≤ 2 ^ 36) × (r .below ≤ 2 ^ 36) × (r .moment ≤ 2 ^ 50)
+lawful-small laws x s k r h = resultants-small s _ _ k r (laws .pushes-light x) (laws .pulls-light x) h
+
 -- the resultants of two parts together are the sums of theirs
 pub resultants-both : (s : Sense) (p q r t : ℕ → ℕ) (k : ℕ) (a b : Resultants) → IsResultants s p r k a → IsResultants s q t k b →
     IsResultants s (p ⊕ q) (r ⊕ t) k (record { above = a .above + b .above; below = a .below + b .below; moment = a .moment + b .moment })
@@ -107,10 +112,10 @@ depth-both p q r t a b x y = record {
 }
 
 -- no strips
-pub depth-none : IsDepth (λ _. 0) (λ _. 0) 0
+pub depth-none : IsDepth noStrips noStrips 0
 depth-none = record { past = λ i l. (refl, refl); least = λ d h. omega arith }
 
-pub resultants-none : (s : Sense) (k : ℕ) → k ≤ 4096 → IsResultants s (λ _. 0) (λ _. 0) k (record { above = 0; below = 0; moment = 0 })
+pub resultants-none : (s : Sense) (k : ℕ) → k ≤ 4096 → IsResultants s noStrips noStrips k (record { above = 0; below = 0; moment = 0 })
 resultants-none s k l =
     let z = zeros (λ _. 0) 4096 (λ _ _. refl) in
     let sa = strengthAbove-sum s (λ _. 0) (λ _. 0) 4096 0 (omega arith) (omega arith) in

@@ -1,5 +1,5 @@
 -- The axis answer is a function of the strips alone.
-use mathlib.Core.Path.{_≡_, refl, sym, ap, _∙_}
+use mathlib.Core.Path.{_≡_, sym, ap, _∙_, fun-ext}
 use mathlib.Core.Logic.{⊎-elim}
 use Prim.Native.Nat.{ℕ, _<_, _≤_}
 use native.Mathlib.Omega.{arith}
@@ -35,3 +35,10 @@ module _ (s : Sense) (p q : ℕ → ℕ) where
   answer-unique (Ok a) (Err f) x y = absurd (some-moment a (x .0) (x .1) (y .1))
   answer-unique (Err f) (Ok b) x y = absurd (some-moment b (y .0) (y .1) (x .1))
   answer-unique (Err f) (Err g) x y = ap Err (x .0 ∙ sym (y .0))
+
+-- parts with equal strips get equal answers
+pub answer-same : (s : Sense) (p q r t : ℕ → ℕ) → ((i : ℕ) → p i ≡ r i) → ((i : ℕ) → q i ≡ t i) → (a b : Result (ℕ × ℕ × ℕ) QuestionFault) → AxisAnswer s p q a → AxisAnswer s r t b → a ≡ b
+answer-same s p q r t e f a b x y =
+    let u : p ≡ r = fun-ext e in
+    let v : q ≡ t = fun-ext f in
+    answer-unique s r t a b (rw (u, v) at x) y

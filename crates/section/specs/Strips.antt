@@ -39,6 +39,10 @@ momentAt n up down k = momentAbove up k + momentBelow n down k
 unfoldable pub imbalanceAt : ℕ → (ℕ → ℕ) → (ℕ → ℕ) → ℕ → ℕ
 imbalanceAt n up down k = (forceAbove up k - forceBelow n down k) + (forceBelow n down k - forceAbove up k)
 
+-- no strip with any strength
+abbrev pub noStrips : ℕ → ℕ
+noStrips i = 0
+
 -- two parts together, strip by strip
 infixl 6 _⊕_
 abbrev pub _⊕_ : (ℕ → ℕ) → (ℕ → ℕ) → ℕ → ℕ

@@ -4,6 +4,7 @@ ghost use Prim.Native.Nat.{_-_, _+_, _<_, min};
 ghost use Rattle.section.specs.Strips.{_⊕_};
 ghost use Rattle.section.specs.Parts.{IsResultants};
 ghost use Rattle.section.specs.Axis.{AxisAnswer, Judged};
+use crate::limits::LOWEST;
 use crate::part::Part;
 use crate::resultants::Resultants;
 use crate::sense::Sense;
@@ -41,8 +42,8 @@ pub fn plastic_axis<P: Part, Q: Part>(
     ensures { λ r. ⌜ AxisAnswer sense (P·Part .pushes (now (first .entry)) ⊕ Q·Part .pushes (now (second .entry))) (P·Part .pulls (now (first .entry)) ⊕ Q·Part .pulls (now (second .entry))) r ⌝ }
 {
     // the moment falls up to the first level with no less force above than below, or to the one before it
-    let mut low: u16 = 0;
-    let mut high: u16 = 4096;
+    let mut low = 0;
+    let mut high = LOWEST;
     while low < high {
         let middle = (low + high) / 2;
         let at = together(first, second, sense, middle);

@@ -5,6 +5,8 @@ ghost use Rattle.section.specs.declared.sense.Sense.{Sense as Senses};
 ghost use Rattle.section.specs.Parts.{IsDepth, IsResultants};
 ghost use Rattle.section.specs.Blocks.{strips, BlockMade, IsAbove, IsBelow, IsBetween};
 use crate::block::Block;
+use crate::limits::LOWEST;
+use crate::limits::STRONGEST;
 use crate::resultants::Resultants;
 
 impl Block {
@@ -12,11 +14,11 @@ impl Block {
     pub fn new(top: u16, height: u16, strength: u64) -> Option<Block>
         ensures { λ r. ⌜ BlockMade top height strength r ⌝ }
     {
-        if height > 4096 || top > 4096 - height {
+        if height > LOWEST || top > LOWEST - height {
             return None;
         }
         match strength.checked_mul(height as u64) {
-            Some(total) if total <= 68_719_476_736 => Some(Block {
+            Some(total) if total <= STRONGEST => Some(Block {
                 top,
                 height,
                 strength,
@@ -71,7 +73,7 @@ impl Block {
     pub fn above(&self, level: u16) -> (u64, u64)
         ensures { λ r. ⌜ IsAbove (now (self .entry)) (min level 4096) r ⌝ }
     {
-        let level = level.min(4096) as u64;
+        let level = level.min(LOWEST) as u64;
         let top = self.top as u64;
         let far = level.saturating_sub(top);
         let near = level.saturating_sub(top + self.height as u64);
@@ -82,7 +84,7 @@ impl Block {
     pub fn below(&self, level: u16) -> (u64, u64)
         ensures { λ r. ⌜ IsBelow (now (self .entry)) (min level 4096) r ⌝ }
     {
-        let level = level.min(4096) as u64;
+        let level = level.min(LOWEST) as u64;
         let top = self.top as u64;
         let far = (top + self.height as u64).saturating_sub(level);
         let near = top.saturating_sub(level);

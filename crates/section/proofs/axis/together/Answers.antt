@@ -1,36 +1,24 @@
 -- `section::axis::together` meets its contract.
 use native.Mathlib.Omega.{arith}
-use Rattle.section.proofs.Together.{resultants-small, resultants-both}
+use Rattle.section.proofs.Together.{lawful-small, resultants-both}
 use Rattle.section.proofs.axis.together.Needs as need
 
 pub add-result : need.add-result
 add-result g c =
-    let x = c .args .first .now in
-    let y = c .args .second .now in
-    let p = g .P·Part .laws in
-    let q = g .Q·Part .laws in
-    let a = resultants-small (c .args .sense) _ _ _ (c .resultants-a .result) (p .pushes-light x) (p .pulls-light x) (c .resultants-a .ensures) in
-    let b = resultants-small (c .args .sense) _ _ _ (c .resultants-b .result) (q .pushes-light y) (q .pulls-light y) (c .resultants-b .ensures) in
+    let a = lawful-small (g .P·Part .laws) (c .args .first .now) _ _ _ (c .resultants-a .ensures) in
+    let b = lawful-small (g .Q·Part .laws) (c .args .second .now) _ _ _ (c .resultants-b .ensures) in
     omega arith
 
 pub add-result-2 : need.add-result-2
 add-result-2 g c =
-    let x = c .args .first .now in
-    let y = c .args .second .now in
-    let p = g .P·Part .laws in
-    let q = g .Q·Part .laws in
-    let a = resultants-small (c .args .sense) _ _ _ (c .resultants-a .result) (p .pushes-light x) (p .pulls-light x) (c .resultants-a .ensures) in
-    let b = resultants-small (c .args .sense) _ _ _ (c .resultants-b .result) (q .pushes-light y) (q .pulls-light y) (c .resultants-b .ensures) in
+    let a = lawful-small (g .P·Part .laws) (c .args .first .now) _ _ _ (c .resultants-a .ensures) in
+    let b = lawful-small (g .Q·Part .laws) (c .args .second .now) _ _ _ (c .resultants-b .ensures) in
     omega arith
 
 pub add-result-3 : need.add-result-3
 add-result-3 g c =
-    let x = c .args .first .now in
-    let y = c .args .second .now in
-    let p = g .P·Part .laws in
-    let q = g .Q·Part .laws in
-    let a = resultants-small (c .args .sense) _ _ _ (c .resultants-a .result) (p .pushes-light x) (p .pulls-light x) (c .resultants-a .ensures) in
-    let b = resultants-small (c .args .sense) _ _ _ (c .resultants-b .result) (q .pushes-light y) (q .pulls-light y) (c .resultants-b .ensures) in
+    let a = lawful-small (g .P·Part .laws) (c .args .first .now) _ _ _ (c .resultants-a .ensures) in
+    let b = lawful-small (g .Q·Part .laws) (c .args .second .now) _ _ _ (c .resultants-b .ensures) in
     omega arith
 
 pub returns : need.returns

@@ -1,0 +1,4 @@
+mod Scan
+mod Tables
+mod Layers
+mod SlabAndBars

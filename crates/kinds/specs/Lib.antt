@@ -1,0 +1,5 @@
+pub mod Decks
+pub mod DeckLaws
+pub mod Shapes
+pub mod ShapeLaws
+pub mod Eithers
