@@ -1,14 +1,16 @@
 -- The factored sum by load types, and the extremes from each type's least and greatest product.
 use mathlib.Core.Path.{_≡_, refl, sym, ap, _∙_, subst}
+use mathlib.Core.Logic.{_⊎_, inl, inr}
 use mathlib.Core.Bool.{Bool, true, false, cond}
 use mathlib.Core.List.{List, [], _∷_}
-use Prim.Native.Nat.{ℕ, _*_, _≤_}
+use Prim.Native.Nat.{ℕ, _*_, _≤_, _<_, max}
 use native.Mathlib.Nat.{mul-le-mul-left}
 use native.Mathlib.Omega.{arith}
-use lib.IntN.{ℤ, pos, negsuc, _+ℤ_, _*ℤ_}
+use lib.IntN.{ℤ, pos, natAbs, _+ℤ_, _*ℤ_}
 use lib.Signed.{_≤ℤ_, _<ℤ_, ltZ}
 use borrow.Author.Differences.{ints, sum-is, le-out}
 use lib.Dec.{eqb}
+use Rattle.std.proofs.shelf.Tests.{cases-lt}
 use Rattle.std.specs.declared.option.Option.{Option}
 use Rattle.std.specs.declared.option.Option.the-variants.{Some, None}
 use Rattle.loads.specs.declared.load_type.LoadType.{LoadType}
@@ -94,3 +96,18 @@ pub none-above : (fs : List (ℕ × ℕ)) (k : EffectKind) (rows : List (Option 
 none-above fs k rows low high m n e below choice chosen x =
     let b = e .between choice chosen .1 in
     omega (arith, ints, times-le n (factored choice k rows) high b)
+
+-- in magnitude: every sum is at most the larger of the two extremes, and some sum is as large
+module _ (fs : List (ℕ × ℕ)) (k : EffectKind) (rows : List (Option Row)) (low high : ℤ) (e : Extremes fs k rows low high) where
+  within : (choice : Choice) → Chosen fs choice → natAbs (factored choice k rows) ≤ max (natAbs low) (natAbs high)
+  within choice chosen = let b = e .between choice chosen in let l = b .0 in let h = b .1 in omega (arith, ints)
+
+  pub none-larger : (m : ℕ) → max (natAbs low) (natAbs high) * 16000 ≤ m → (choice : Choice) → Chosen fs choice → m < natAbs (factored choice k rows) * 16000 → ⊥
+  none-larger m bound choice chosen x = let w = within choice chosen in omega arith
+
+  pub some-larger : (m : ℕ) → m < max (natAbs low) (natAbs high) * 16000 → (choice : Choice) × Chosen fs choice × (m < natAbs (factored choice k rows) * 16000)
+  some-larger m x = go (cases-lt (natAbs low) (natAbs high))
+    where
+      go : (natAbs low < natAbs high) ⊎ (natAbs high ≤ natAbs low) → (choice : Choice) × Chosen fs choice × (m < natAbs (factored choice k rows) * 16000)
+      go (inl h) = let f = e .high-met in (f .0, f .1, subst (λ (z : ℤ). m < natAbs z * 16000) (sym (f .2)) (let g : m < natAbs high * 16000 = omega arith in g))
+      go (inr h) = let f = e .low-met in (f .0, f .1, subst (λ (z : ℤ). m < natAbs z * 16000) (sym (f .2)) (let g : m < natAbs low * 16000 = omega arith in g))

@@ -1,3 +1,6 @@
 pub mod Products
 pub mod Choices
 pub mod Depths
+pub mod Roots
+pub mod Webs
+pub mod StudCounts
