@@ -11,7 +11,7 @@ use Rattle.std.specs.declared.result.Result.the-variants.{Ok, Err}
 use Rattle.faults.specs.declared.reading.ReadFault.{ReadFault}
 use Rattle.faults.specs.declared.reading.ReadFault.the-variants.{UnknownCommand, CutShort}
 use Rattle.command.specs.declared.commands.Command.{Command}
-use Rattle.command.specs.Bytes.{taking, parsed, place, lift, lower, enter, strike, extremes}
+use Rattle.command.specs.Bytes.{taking, parsed, place, lift, lower, enter, strike, extremes, bending, shear}
 
 -- the length of what follows, where a command was read
 abbrev left : Result (Command × List ℕ) ReadFault → ℕ
@@ -36,7 +36,9 @@ left-parsed b ops =
     (left-cond (eqb b 3) _ _ (length ops) (left-taking 2 ops (lower ops))
     (left-cond (eqb b 4) _ _ (length ops) (left-taking 7 ops (enter ops))
     (left-cond (eqb b 5) _ _ (length ops) (left-taking 1 ops (strike ops))
-    (left-cond (eqb b 6) _ _ (length ops) (left-taking 2 ops (extremes ops)) (omega arith))))))
+    (left-cond (eqb b 6) _ _ (length ops) (left-taking 2 ops (extremes ops))
+    (left-cond (eqb b 7) _ _ (length ops) (left-taking 9 ops (bending ops))
+    (left-cond (eqb b 8) _ _ (length ops) (left-taking 3 ops (shear ops)) (omega arith))))))))
 
 pub shorter : (bs : List ℕ) (c : Command) (rest : List ℕ) → Ok (c, rest) ≡ parsed bs → length rest < length bs
 shorter [] c rest e = let z : _≡_ {A = ℕ} 0 1 = cc in absurd (omega arith)

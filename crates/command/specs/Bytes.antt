@@ -12,7 +12,7 @@ use Rattle.std.specs.declared.result.Result.the-variants.{Ok, Err}
 use Rattle.faults.specs.declared.reading.ReadFault.{ReadFault}
 use Rattle.faults.specs.declared.reading.ReadFault.the-variants.{UnknownCommand, CutShort}
 use Rattle.command.specs.declared.commands.Command.{Command}
-use Rattle.command.specs.declared.commands.Command.the-variants.{Place, Lift, Lower, Enter, Strike, Extremes}
+use Rattle.command.specs.declared.commands.Command.the-variants.{Place, Lift, Lower, Enter, Strike, Extremes, Bending, Shear}
 
 -- the operand of one byte at place i
 abbrev pub byte : List ℕ → ℕ → ℕ
@@ -48,6 +48,12 @@ strike ops = Strike (byte ops 0)
 abbrev pub extremes : List ℕ → Command
 extremes ops = Extremes (byte ops 0) (byte ops 1)
 
+abbrev pub bending : List ℕ → Command
+bending ops = Bending (byte ops 0) (two-bytes ops 1) (two-bytes ops 3) (two-bytes ops 5) (two-bytes ops 7)
+
+abbrev pub shear : List ℕ → Command
+shear ops = Shear (byte ops 0) (two-bytes ops 1)
+
 -- the first command of the bytes and the bytes after it
 abbrev pub parsed : List ℕ → Result (Command × List ℕ) ReadFault
 parsed [] = Err CutShort
@@ -58,7 +64,9 @@ parsed (b ∷ ops) =
     (cond (eqb b 4) (taking 7 ops (enter ops))
     (cond (eqb b 5) (taking 1 ops (strike ops))
     (cond (eqb b 6) (taking 2 ops (extremes ops))
-    (Err UnknownCommand))))))
+    (cond (eqb b 7) (taking 9 ops (bending ops))
+    (cond (eqb b 8) (taking 3 ops (shear ops))
+    (Err UnknownCommand))))))))
 
 -- a reading's result, with the bytes that it refers to
 abbrev pub shown : Result (Command × RefT (List ℕ)) ReadFault → Result (Command × List ℕ) ReadFault

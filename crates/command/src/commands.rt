@@ -28,4 +28,16 @@ pub enum Command {
         state: u8,
         effect: u8,
     },
+    Bending {
+        state: u8,
+        top: u16,
+        breadth: u16,
+        height: u16,
+        fc: u16,
+    },
+    Shear {
+        state: u8,
+        // 0 for no stiffeners
+        spacing: u16,
+    },
 }

@@ -1,6 +1,6 @@
 // Reads one command.
 ghost use mathlib.Core.Path.{_≡_};
-ghost use Rattle.command.specs.Bytes.{shown, parsed, taking, place, lift, lower, enter, strike, extremes};
+ghost use Rattle.command.specs.Bytes.{shown, parsed, taking, place, lift, lower, enter, strike, extremes, bending, shear};
 use crate::commands::Command;
 use faults::ReadFault;
 
@@ -16,6 +16,8 @@ pub fn read(bytes: &[u8]) -> Result<(Command, &[u8]), ReadFault>
         [0x04, operands @ ..] => read_enter(operands),
         [0x05, operands @ ..] => read_strike(operands),
         [0x06, operands @ ..] => read_extremes(operands),
+        [0x07, operands @ ..] => read_bending(operands),
+        [0x08, operands @ ..] => read_shear(operands),
         [_, ..] => Err(ReadFault::UnknownCommand),
         [] => Err(ReadFault::CutShort),
     }
@@ -115,6 +117,44 @@ fn read_extremes(operands: &[u8]) -> Result<(Command, &[u8]), ReadFault>
         Command::Extremes {
             state: *state,
             effect: *effect,
+        },
+        rest,
+    ))
+}
+
+fn read_bending(operands: &[u8]) -> Result<(Command, &[u8]), ReadFault>
+    ensures { λ r. ⌜ shown r ≡ taking 9 (now (operands .entry)) (bending (now (operands .entry))) ⌝ }
+{
+    let [state, t1, t0, b1, b0, h1, h0, f1, f0, rest @ ..] = operands else {
+        return Err(ReadFault::CutShort);
+    };
+    let top = u16::from_be_bytes([*t1, *t0]);
+    let breadth = u16::from_be_bytes([*b1, *b0]);
+    let height = u16::from_be_bytes([*h1, *h0]);
+    let fc = u16::from_be_bytes([*f1, *f0]);
+    Ok((
+        Command::Bending {
+            state: *state,
+            top,
+            breadth,
+            height,
+            fc,
+        },
+        rest,
+    ))
+}
+
+fn read_shear(operands: &[u8]) -> Result<(Command, &[u8]), ReadFault>
+    ensures { λ r. ⌜ shown r ≡ taking 3 (now (operands .entry)) (shear (now (operands .entry))) ⌝ }
+{
+    let [state, d1, d0, rest @ ..] = operands else {
+        return Err(ReadFault::CutShort);
+    };
+    let spacing = u16::from_be_bytes([*d1, *d0]);
+    Ok((
+        Command::Shear {
+            state: *state,
+            spacing,
         },
         rest,
     ))

@@ -4,6 +4,7 @@ ghost use mathlib.Core.Bool.{not};
 ghost use Prim.Native.Nat.{_*_, _^_, _<_, _≤_};
 ghost use lib.IntN.{pos};
 ghost use lib.Signed.{ltZ};
+ghost use Rattle.std.specs.Vec.{made};
 ghost use Rattle.sheet.specs.Ledger.{ledger};
 ghost use Rattle.questions.specs.Extremes.{times};
 ghost use Rattle.questions.specs.Bending.{nominal-moment, not-compact, brittle, ThreePlates, ResistanceAnswer, Judges, BendingAnswer};
@@ -25,7 +26,8 @@ use sheet::Sheet;
 // The bending resistance; refused with 11 where the smallest plastic moment is 0, then with 12
 // where a flange or the web is missing.
 pub fn resistance<P: Part>(sheet: &Sheet, part: &P) -> Result<Resistance, QuestionFault>
-    ensures { λ r. ⌜ ResistanceAnswer (ledger (now (sheet .entry))) (pushes (now (part .entry))) (pulls (now (part .entry))) r ⌝ }
+    ensures answer { λ r. ⌜ ResistanceAnswer (ledger (now (sheet .entry))) (pushes (now (part .entry))) (pulls (now (part .entry))) r ⌝ }
+    ensures small { λ r. ⌜ made r (λ x. (x .mp ≤ 2 ^ 38) × (x .mn ≤ 2 ^ 38)) ⌝ }
 {
     let (level, moment, _) = axis(sheet, part, Sense::Sagging)?;
     let (top, web, bottom) = three_plates(sheet)?;
@@ -97,7 +99,8 @@ fn three_plates(sheet: &Sheet) -> Result<(Plate, Plate, Plate), QuestionFault>
 fn nominal_moment(mp: u64, dp: u16, dt: u16) -> u64
     requires small { ⌜ mp ≤ 2 ^ 38 ⌝ }
     requires some { ⌜ 0 < dt ⌝ }
-    ensures { λ r. ⌜ r ≡ nominal-moment mp dp dt ⌝ }
+    ensures value { λ r. ⌜ r ≡ nominal-moment mp dp dt ⌝ }
+    ensures bound { λ r. ⌜ r ≤ mp ⌝ }
 {
     let dp = u64::from(dp);
     let dt = u64::from(dt);

@@ -10,7 +10,8 @@ use Rattle.std.proofs.shelf.Results.{err-from-errBy}
 use Rattle.std.specs.declared.result.Result.{Result}
 use Rattle.std.specs.declared.result.Result.the-variants.{Ok, Err}
 use Rattle.faults.specs.declared.reading.ReadFault.{ReadFault}
-use Rattle.faults.specs.declared.question.QuestionFault.the-variants.{UnknownState}
+use Rattle.faults.specs.declared.question.QuestionFault.{QuestionFault}
+use Rattle.faults.specs.declared.question.QuestionFault.the-variants.{NoMoment, PlateMissing, SpacingLimits, StudLimits, UnlawfulFactors, UnknownState}
 use Rattle.faults.specs.declared.recorded.RecordFault.{RecordFault}
 use Rattle.faults.specs.declared.recorded.RecordFault.the-variants.{Question, Reading}
 use Rattle.loads.specs.declared.kind.EffectKind.{EffectKind}
@@ -18,7 +19,12 @@ use Rattle.loads.specs.Factors.{states}
 use Rattle.sheet.specs.Ledger.{Ledger}
 use Rattle.questions.specs.Extremes.{Extremes}
 use Rattle.record.specs.Lines.{extremes-line, Wrote}
-use Rattle.record.specs.Runs.{Outcome, Asks-extremes, Reported, Runs, quiet, no-line}
+use Rattle.record.specs.Runs.{Outcome, Asks-extremes, Reported, Runs, quiet, no-line, slab-pushes, slab-pulls, Tells-bending, Tells-shear}
+use Rattle.std.specs.declared.option.Option.{Option}
+use Rattle.kinds.specs.declared.slab.Slab.{Slab}
+use Rattle.kinds.specs.Decks.{DeckFits}
+use Rattle.questions.specs.Bending.{RefusesBending}
+use Rattle.questions.specs.Shear.{RefusesShear}
 use Rattle.command.specs.declared.commands.Command.{Command}
 
 -- what `?` returns at a fault that its conversion wraps
@@ -55,3 +61,23 @@ module _ (L : Ledger) (n : ℕ) (k : Result EffectKind ReadFault) where
 
     pub told : (low high : ℤ) → 1 ≤ n → n ≤ 9 → Extremes (getD states (n - 1) []) kind (L .rows) low high → Asks-extremes L n k L (Ok (extremes-line low high))
     told low high a b x = subst (λ y. Asks-extremes L n y L (Ok (extremes-line low high))) e (a, b, refl, (low, high, x, refl))
+
+-- the shear question, with the state looked up last
+module _ (L : Ledger) (n : ℕ) (d : Option ℕ) where
+  pub shear-refused : (f : QuestionFault) → RefusesShear L d f → Tells-shear L n d L (Err (Question f))
+  shear-refused NoMoment x = absurd x
+  shear-refused PlateMissing x = (x, refl)
+  shear-refused SpacingLimits x = (x, refl)
+  shear-refused StudLimits x = absurd x
+  shear-refused UnlawfulFactors x = absurd x
+  shear-refused UnknownState x = absurd x
+
+-- the bending question, with the slab first and the state last
+module _ (L : Ledger) (n : ℕ) (s : Slab) (fits : DeckFits s []) where
+  pub bending-refused : (f : QuestionFault) → RefusesBending L (slab-pushes s) slab-pulls f → Tells-bending L n s L (Err (Question f))
+  bending-refused NoMoment x = (fits, x, refl)
+  bending-refused PlateMissing x = (fits, x, refl)
+  bending-refused SpacingLimits x = absurd x
+  bending-refused StudLimits x = absurd x
+  bending-refused UnlawfulFactors x = absurd x
+  bending-refused UnknownState x = absurd x

@@ -26,6 +26,15 @@ line-end = 10 ∷ []
 abbrev pub extremes-line : ℤ → ℤ → List ℕ
 extremes-line low high = codes "6 low " ++ (signed low ++ (codes " high " ++ (signed high ++ line-end)))
 
+-- 7 level LEVEL moment MP mn MN verdict VERDICT
+abbrev pub bending-line : ℕ → ℕ → ℕ → ℕ → List ℕ
+bending-line level mp mn verdict =
+    codes "7 level " ++ (decimal level ++ (codes " moment " ++ (decimal mp ++ (codes " mn " ++ (decimal mn ++ (codes " verdict " ++ (decimal verdict ++ line-end)))))))
+
+-- 8 shear FORCE verdict VERDICT
+abbrev pub shear-line : ℕ → ℕ → List ℕ
+shear-line force verdict = codes "8 shear " ++ (decimal force ++ (codes " verdict " ++ (decimal verdict ++ line-end)))
+
 -- fault at PLACE LAYER NUMBER
 abbrev pub fault-line : ℕ → RecordFault → List ℕ
 fault-line place f = codes "fault at " ++ (decimal place ++ (codes " " ++ (layer-name (layer f) ++ (codes " " ++ (decimal (number f) ++ line-end)))))

@@ -5,10 +5,13 @@ use mathlib.Core.List.{List, []}
 use Prim.Native.Nat.{ℕ, _-_, _≤_, _<_}
 use lib.IntN.{ℤ}
 use lib.ListN.{getD}
+use Rattle.std.specs.declared.option.Option.{Option}
 use Rattle.std.specs.declared.result.Result.{Result}
 use Rattle.std.specs.declared.result.Result.the-variants.{Ok, Err}
 use Rattle.faults.specs.declared.reading.ReadFault.{ReadFault}
-use Rattle.faults.specs.declared.question.QuestionFault.the-variants.{UnknownState}
+use Rattle.faults.specs.declared.part.PartFault.the-variants.{OutsideLimits}
+use Rattle.faults.specs.declared.question.QuestionFault.{QuestionFault}
+use Rattle.faults.specs.declared.question.QuestionFault.the-variants.{NoMoment, PlateMissing, SpacingLimits, StudLimits, UnlawfulFactors, UnknownState}
 use Rattle.faults.specs.declared.recorded.RecordFault.{RecordFault}
 use Rattle.faults.specs.declared.recorded.RecordFault.the-variants.{Sheet, Part, Question, Reading}
 use Rattle.loads.specs.declared.load_type.LoadType.{LoadType}
@@ -16,11 +19,18 @@ use Rattle.loads.specs.declared.kind.EffectKind.{EffectKind}
 use Rattle.loads.specs.Values.{judged-sixteenths}
 use Rattle.loads.specs.Factors.{states}
 use Rattle.sheet.specs.Ledger.{Ledger, Change, place, lift, lower, enter, strike, after, Answers}
+use Rattle.section.specs.Strips.{_⊕_}
+use Rattle.kinds.specs.declared.slab.Slab.{Slab}
+use Rattle.kinds.specs.Decks.{DeckFits, slabStrip, layersStrip}
+use Rattle.questions.specs.declared.answers.Verdict.{Verdict}
+use Rattle.questions.specs.declared.answers.Resistance.{Resistance}
 use Rattle.questions.specs.Extremes as asked
+use Rattle.questions.specs.Bending.{verdict-number, IsResistance, RefusesBending, Judges}
+use Rattle.questions.specs.Shear.{IsShearResistance, RefusesShear, JudgesShear}
 use Rattle.command.specs.declared.commands.Command.{Command}
-use Rattle.command.specs.declared.commands.Command.the-variants.{Place, Lift, Lower, Enter, Strike, Extremes}
-use Rattle.record.specs.Lines.{extremes-line, Wrote}
-use Rattle.record.specs.Codes.{load-type, effect-kind}
+use Rattle.command.specs.declared.commands.Command.the-variants.{Place, Lift, Lower, Enter, Strike, Extremes, Bending, Shear}
+use Rattle.record.specs.Lines.{extremes-line, bending-line, shear-line, Wrote}
+use Rattle.record.specs.Codes.{load-type, effect-kind, spacing-of}
 
 -- a command's line, [] where it prints none, or its fault
 abbrev pub Outcome : Type 0
@@ -55,6 +65,43 @@ abbrev pub Asks-extremes : Ledger → ℕ → Result EffectKind ReadFault → Le
 Asks-extremes L n (Err f) M o = Refused L f M o
 Asks-extremes L n (Ok k) M o = Tells-extremes L n k M o
 
+-- a question that has been answered but for the state, which is looked up last
+abbrev pub StateLast : ℕ → Type 0 → (QuestionFault → Type 0) → QuestionFault → Type 0
+StateLast n Answered Refuses NoMoment = Refuses NoMoment
+StateLast n Answered Refuses PlateMissing = Refuses PlateMissing
+StateLast n Answered Refuses SpacingLimits = Refuses SpacingLimits
+StateLast n Answered Refuses StudLimits = Refuses StudLimits
+StateLast n Answered Refuses UnlawfulFactors = Refuses UnlawfulFactors
+StateLast n Answered Refuses UnknownState = ((n ≡ 0) ⊎ (9 < n)) × Answered
+
+-- a deck of one slab and no bars
+abbrev pub slab-pushes : Slab → ℕ → ℕ
+slab-pushes s = slabStrip s ⊕ layersStrip []
+
+abbrev pub slab-pulls : ℕ → ℕ
+slab-pulls = layersStrip []
+
+-- bending with a slab: refused with 10 where the slab does not fit, then with 11 and 12, then with 15
+abbrev pub Tells-bending : Ledger → ℕ → Slab → Ledger → Outcome → Type 0
+Tells-bending L n s M (Ok text) =
+    DeckFits s [] × (1 ≤ n) × (n ≤ 9) × (M ≡ L)
+    × ((r : Resistance) × (v : Verdict) × IsResistance L (slab-pushes s) slab-pulls r × Judges (getD states (n - 1) []) (L .rows) r v × (text ≡ bending-line (r .level) (r .mp) (r .mn) (verdict-number v)))
+Tells-bending L n s M (Err (Sheet f)) = ⊥
+Tells-bending L n s M (Err (Part f)) = (f ≡ OutsideLimits) × (DeckFits s [] → ⊥) × (M ≡ L)
+Tells-bending L n s M (Err (Question f)) =
+    DeckFits s [] × StateLast n ((r : Resistance) × IsResistance L (slab-pushes s) slab-pulls r) (RefusesBending L (slab-pushes s) slab-pulls) f × (M ≡ L)
+Tells-bending L n s M (Err (Reading f)) = ⊥
+
+-- shear: refused with 12 and 13, then with 15
+abbrev pub Tells-shear : Ledger → ℕ → Option ℕ → Ledger → Outcome → Type 0
+Tells-shear L n d M (Ok text) =
+    (1 ≤ n) × (n ≤ 9) × (M ≡ L)
+    × ((force : ℕ) × (v : Verdict) × IsShearResistance L d force × JudgesShear (getD states (n - 1) []) (L .rows) force v × (text ≡ shear-line force (verdict-number v)))
+Tells-shear L n d M (Err (Sheet f)) = ⊥
+Tells-shear L n d M (Err (Part f)) = ⊥
+Tells-shear L n d M (Err (Question f)) = StateLast n ((force : ℕ) × IsShearResistance L d force) (RefusesShear L d) f × (M ≡ L)
+Tells-shear L n d M (Err (Reading f)) = ⊥
+
 abbrev pub Runs : Ledger → Command → Ledger → Outcome → Type 0
 Runs L (Place s r t b h g) M o = Changes L (place s (record { role = r; top = t; breadth = b; height = h; fy = g })) M o
 Runs L (Lift s) M o = Changes L (lift s) M o
@@ -62,6 +109,8 @@ Runs L (Lower n) M o = Changes L (lower n) M o
 Runs L (Enter s t e n) M o = Enters L s (load-type t) (effect-kind e) n M o
 Runs L (Strike s) M o = Changes L (strike s) M o
 Runs L (Extremes n e) M o = Asks-extremes L n (effect-kind e) M o
+Runs L (Bending n t b h f) M o = Tells-bending L n (record { top = t; breadth = b; height = h; strength = f }) M o
+Runs L (Shear n d) M o = Tells-shear L n (spacing-of d) M o
 
 -- an outcome as a call returns it: the line's length, with the line at the front of the buffer and the rest untouched; of a fault, the buffer as it was
 abbrev pub Returns : List ℕ → Outcome → Result ℕ RecordFault → List ℕ → Type 0

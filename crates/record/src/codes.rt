@@ -1,6 +1,6 @@
 // The record's codes for load types and effects.
 ghost use mathlib.Core.Path.{_≡_};
-ghost use Rattle.record.specs.Codes.{load-type, effect-kind};
+ghost use Rattle.record.specs.Codes.{load-type, effect-kind, spacing-of};
 use faults::ReadFault;
 use loads::EffectKind;
 use loads::LoadType;
@@ -25,4 +25,11 @@ pub(crate) fn effect_kind(code: u8) -> Result<EffectKind, ReadFault>
         2 => Ok(EffectKind::Shear),
         _ => Err(ReadFault::UnknownCode),
     }
+}
+
+// A stiffener spacing, 0 for none.
+pub(crate) fn spacing_of(code: u16) -> Option<u16>
+    ensures { λ r. ⌜ r ≡ spacing-of code ⌝ }
+{
+    if code == 0 { None } else { Some(code) }
 }

@@ -1,13 +1,15 @@
 // Writes a line into a caller's buffer.
 ghost use mathlib.Core.Path.{_≡_};
 ghost use mathlib.Core.List.{[], _∷_};
-ghost use Prim.Native.Nat.{ℕ, _+_, _<_, _≤_};
+ghost use Prim.Native.Nat.{_+_, _^_, _<_, _≤_};
 ghost use lib.ListN.{length};
 ghost use denote.Ref.{name};
 ghost use Rattle.std.specs.Written.{decimal, signed};
+ghost use Rattle.questions.specs.Bending.{verdict-number};
 ghost use Rattle.record.specs.Writing.{Adds};
 ghost use Rattle.record.specs.Lines.{layer-name};
 use faults::Layer;
+use questions::Verdict;
 
 #[derive(Drop)]
 pub struct LineWriter<'a> {
@@ -51,6 +53,37 @@ impl LineWriter<'_> {
         ensures bound { λ _. ⌜ now (self .exit) .len ≤ now (self .entry) .len + 20 ⌝ }
     {
         self.put_digits(n);
+    }
+
+    // The same of a level, of at most five digits.
+    pub(crate) fn put_level(&mut self, n: u16)
+        requires { ⌜ now self .len + 5 ≤ length (now (now self .line)) ⌝ }
+        ensures same { λ _. ⌜ name (now (self .exit) .line) ≡ name (now (self .entry) .line) ⌝ }
+        ensures adds { λ _. ⌜ Adds (now (self .entry)) (decimal n) (now (self .exit)) ⌝ }
+        ensures bound { λ _. ⌜ now (self .exit) .len ≤ now (self .entry) .len + 5 ⌝ }
+    {
+        self.put_digits(n as u64);
+    }
+
+    // The same of a moment in pound-inches, of at most twelve digits.
+    pub(crate) fn put_moment(&mut self, n: u64)
+        requires room { ⌜ now self .len + 12 ≤ length (now (now self .line)) ⌝ }
+        requires small { ⌜ n ≤ 2 ^ 38 ⌝ }
+        ensures same { λ _. ⌜ name (now (self .exit) .line) ≡ name (now (self .entry) .line) ⌝ }
+        ensures adds { λ _. ⌜ Adds (now (self .entry)) (decimal n) (now (self .exit)) ⌝ }
+        ensures bound { λ _. ⌜ now (self .exit) .len ≤ now (self .entry) .len + 12 ⌝ }
+    {
+        self.put_digits(n);
+    }
+
+    // The digit of a verdict.
+    pub(crate) fn put_verdict(&mut self, verdict: Verdict)
+        requires { ⌜ now self .len + 1 ≤ length (now (now self .line)) ⌝ }
+        ensures same { λ _. ⌜ name (now (self .exit) .line) ≡ name (now (self .entry) .line) ⌝ }
+        ensures adds { λ _. ⌜ Adds (now (self .entry)) (decimal (verdict-number verdict)) (now (self .exit)) ⌝ }
+        ensures bound { λ _. ⌜ now (self .exit) .len ≤ now (self .entry) .len + 1 ⌝ }
+    {
+        self.put_digit(verdict.number() as u64);
     }
 
     fn put_digits(&mut self, n: u64)

@@ -4,16 +4,23 @@ ghost use Prim.Native.Nat.{_≤_};
 ghost use lib.ListN.{length};
 ghost use Rattle.sheet.specs.Ledger as calls;
 ghost use Rattle.sheet.specs.Ledger.{ledger};
-ghost use Rattle.record.specs.Codes.{load-type, effect-kind};
-ghost use Rattle.record.specs.Runs.{Reported, Runs, Enters, Changes, Asks-extremes, quiet, no-line};
+ghost use Rattle.record.specs.Codes.{load-type, effect-kind, spacing-of};
+ghost use Rattle.record.specs.Runs.{Reported, Runs, Enters, Changes, Asks-extremes, Tells-bending, Tells-shear, quiet, no-line};
 use crate::codes::effect_kind;
 use crate::codes::load_type;
+use crate::codes::spacing_of;
+use crate::lines::write_bending;
 use crate::lines::write_extremes;
+use crate::lines::write_shear;
 use command::Command;
 use faults::RecordFault;
+use faults::RecordFromPart;
 use faults::RecordFromQuestion;
 use faults::RecordFromRead;
 use faults::RecordFromSheet;
+use kinds::Deck;
+use kinds::DeckPart;
+use kinds::Slab;
 use loads::Effect;
 use loads::LimitState;
 use sheet::PlateInput;
@@ -60,6 +67,26 @@ pub(crate) fn run(
         } => { no_line(run_enter(sheet, slot, load, effect, sixteenths)) }
         Command::Strike { slot } => no_line(run_strike(sheet, slot)),
         Command::Extremes { state, effect } => run_extremes(sheet, state, effect, line),
+        Command::Bending {
+            state,
+            top,
+            breadth,
+            height,
+            fc,
+        } => {
+            run_bending(
+                sheet,
+                state,
+                Slab {
+                    top,
+                    breadth,
+                    height,
+                    strength: fc,
+                },
+                line,
+            )
+        }
+        Command::Shear { state, spacing } => run_shear(sheet, state, spacing, line),
     }
 }
 
@@ -122,4 +149,28 @@ fn run_extremes(sheet: &Sheet, state: u8, effect: u8, line: &mut [u8]) -> Result
     let state = LimitState::published(state)?;
     let (low, high) = questions::extremes(sheet, &state, kind);
     Ok(write_extremes(line, low, high))
+}
+
+// The state is looked up last, so that a fault of the section is found first.
+fn run_bending(sheet: &Sheet, state: u8, slab: Slab, line: &mut [u8]) -> Result<usize, RecordFault>
+    requires { ⌜ 64 ≤ length (now line) ⌝ }
+    ensures { λ r. ⌜ Reported (Tells-bending (ledger (now (sheet .entry))) state slab (ledger (now (sheet .entry)))) (now (line .entry)) r (now (line .exit)) ⌝ }
+{
+    let mut deck = Deck::empty();
+    deck.fill(slab, &[])?;
+    let found = questions::resistance(sheet, &deck)?;
+    let state = LimitState::published(state)?;
+    let verdict = found.verdict(sheet, &state);
+    Ok(write_bending(line, &found, verdict))
+}
+
+fn run_shear(sheet: &Sheet, state: u8, spacing: u16, line: &mut [u8]) -> Result<usize, RecordFault>
+    requires { ⌜ 64 ≤ length (now line) ⌝ }
+    ensures { λ r. ⌜ Reported (Tells-shear (ledger (now (sheet .entry))) state (spacing-of spacing) (ledger (now (sheet .entry)))) (now (line .entry)) r (now (line .exit)) ⌝ }
+{
+    let spacing = spacing_of(spacing);
+    let force = questions::shear_resistance(sheet, spacing)?;
+    let state = LimitState::published(state)?;
+    let verdict = questions::shear_verdict(sheet, force, &state);
+    Ok(write_shear(line, force, verdict))
 }

@@ -22,3 +22,9 @@ returns-in-5 c = c .read-strike .ensures ∙ sym (ap parsed (begins (c .args .by
 
 pub returns-in-6 : need.returns-in-6
 returns-in-6 c = c .read-extremes .ensures ∙ sym (ap parsed (begins (c .args .bytes .now) 6 (search needs) (search needs)))
+
+pub returns-in-7 : need.returns-in-7
+returns-in-7 c = c .read-bending .ensures ∙ sym (ap parsed (begins (c .args .bytes .now) 7 (search needs) (search needs)))
+
+pub returns-in-8 : need.returns-in-8
+returns-in-8 c = c .read-shear .ensures ∙ sym (ap parsed (begins (c .args .bytes .now) 8 (search needs) (search needs)))
