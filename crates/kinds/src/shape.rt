@@ -1,7 +1,6 @@
 // A rolled shape, by a lent table of breadths, one for each strip from its top down.
 ghost use mathlib.Core.Path.{_≡_};
-ghost use mathlib.Core.List.{[]};
-ghost use Prim.Native.Nat.{ℕ, _+_, _*_, _^_, _≤_};
+ghost use Prim.Native.Nat.{_+_, _*_, _^_, _≤_};
 ghost use lib.ListN.{length};
 ghost use Rattle.std.specs.shelf.Lists.{sum};
 ghost use Rattle.section.specs.Strips.{noStrips};
@@ -16,7 +15,7 @@ use section::Resultants;
 use section::STRONGEST;
 use section::Sense;
 
-#[derive(Drop)]
+#[derive(Clone, Copy)]
 pub struct Shape<'a> {
     top: u16,
     yield_strength: u32,
