@@ -3,6 +3,8 @@ mod changes;
 mod held;
 mod row;
 mod rows;
+#[cfg(test)]
+mod tests;
 
 pub use held::Sheet;
 pub use row::Row;
