@@ -11,7 +11,7 @@ use lib.ListN.{length, take, getD, set, length-set}
 use borrow.Author.Tests.{eq-eqb, ne-eqb}
 use Rattle.std.proofs.shelf.Lists.{take-more, take-all, getD-set-other}
 use Rattle.section.specs.declared.block.Block.{Block}
-use Rattle.section.specs.Strips.{_⊕_, noStrips}
+use Rattle.section.specs.Strips.{_⊕_}
 use Rattle.section.specs.Sums.{le-or-lt}
 use Rattle.section.specs.Blocks.{blockStrip, strips, stacked, stackedTotal}
 use Rattle.section.specs.BlockLaws.{block-before, block-within, block-past, block-none}

@@ -2,13 +2,13 @@
 use mathlib.Core.Path.{_≡_, refl, sym, ap, _∙_}
 use mathlib.Core.Logic.{⊎-elim}
 use mathlib.Core.Bool.{cond}
-use Prim.Native.Nat.{ℕ, zero, suc, _+_, _-_, _*_, _<_, _≤_}
+use Prim.Native.Nat.{ℕ, suc, _+_, _-_, _*_, _<_, _≤_}
 use native.Mathlib.Nat.{mul-le-mul-left}
 use native.Mathlib.Omega.{arith}
 use lib.Dec.{ltb}
 use Rattle.std.proofs.shelf.Tests.{lt-ltb, le-ltb}
 use Rattle.section.specs.Strips.{sumTo, forceAbove, forceBelow, momentAbove, momentBelow, momentAt}
-use Rattle.section.specs.Sums.{le-or-lt, sumTo-suc, sumTo-zero, sumTo-cong, sumTo-add, sumTo-le, sumTo-split, sumTo-times, zeros, sumTo-past, sumTo-mono}
+use Rattle.section.specs.Sums.{le-or-lt, sumTo-suc, sumTo-cong, sumTo-add, sumTo-le, sumTo-split, sumTo-times, zeros, sumTo-past, sumTo-mono}
 
 -- what the strip i adds to the force above the level k, to the force below it, and to the moment
 abbrev aboveAt : (ℕ → ℕ) → ℕ → ℕ → ℕ

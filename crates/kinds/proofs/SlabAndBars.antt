@@ -1,13 +1,12 @@
 -- A slab that only pushes, beside bars that push and pull.
 use mathlib.Core.Path.{_≡_}
-use Prim.Native.Nat.{ℕ, _+_, _^_, _≤_, min, max}
+use Prim.Native.Nat.{ℕ, _+_, max}
 use native.Mathlib.Omega.{arith}
 use Rattle.section.specs.declared.sense.Sense.the-variants.{Sagging, Hogging}
 use Rattle.section.specs.declared.resultants.Resultants.{Resultants}
-use Rattle.section.specs.Strips.{sumTo, forceAbove, forceBelow, momentAbove, momentBelow, _⊕_}
+use Rattle.section.specs.Strips.{forceAbove, forceBelow, momentAbove, momentBelow, _⊕_}
 use Rattle.section.specs.Parts.{IsDepth, IsResultants}
-use Rattle.section.specs.Sums.{sumTo-add}
-use Rattle.section.proofs.Together.{forceAbove-both, forceBelow-both, momentAbove-both, momentBelow-both, resultants-small}
+use Rattle.section.proofs.Together.{forceAbove-both, forceBelow-both, momentAbove-both, momentBelow-both}
 
 pub depth-beside : (slab bars : ℕ → ℕ) (a b : ℕ) → IsDepth slab slab a → IsDepth bars bars b → IsDepth (slab ⊕ bars) bars (max a b)
 depth-beside slab bars a b x y = record {

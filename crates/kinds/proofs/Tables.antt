@@ -2,14 +2,14 @@
 use mathlib.Core.Path.{_≡_, fun-ext}
 use mathlib.Core.Logic.{⊎-elim}
 use mathlib.Core.List.{List, []}
-use Prim.Native.Nat.{ℕ, zero, suc, _+_, _-_, _*_, _^_, _<_, _≤_}
+use Prim.Native.Nat.{ℕ, suc, _+_, _-_, _*_, _^_, _<_, _≤_}
 use native.Mathlib.Omega.{arith}
 use lib.ListN.{length, getD}
 use Rattle.std.specs.shelf.Lists.{sum}
 use Rattle.std.proofs.shelf.Bits.{mul-le}
 use Rattle.section.specs.declared.sense.Sense.{Sense}
 use Rattle.section.specs.declared.sense.Sense.the-variants.{Sagging, Hogging}
-use Rattle.section.specs.Strips.{sumTo, noStrips}
+use Rattle.section.specs.Strips.{noStrips}
 use Rattle.section.specs.Parts.{IsDepth, IsResultants}
 use Rattle.section.specs.Sums.{le-or-lt}
 use Rattle.kinds.specs.Shapes.{tableStrip, Broad}

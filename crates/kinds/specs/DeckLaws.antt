@@ -1,7 +1,5 @@
 -- A deck and a cracked deck keep the laws of parts.
-use Prim.Native.Nat.{ℕ, _≤_}
 use native.Mathlib.Omega.{arith}
-use Rattle.section.specs.Strips.{sumTo}
 use Rattle.section.specs.Parts.{Lawful}
 use Rattle.section.specs.Sums.{sumTo-add}
 use Rattle.section.specs.Blocks.{strips}

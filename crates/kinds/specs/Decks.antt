@@ -20,14 +20,14 @@ use Rattle.kinds.specs.declared.deck.Deck.{Deck}
 
 -- what a slab adds to the push of each of its strips
 abbrev pub slabForce : Slab → ℕ
-slabForce s = s .breadth * 17 * s .strength / 20
+slabForce s = s .breadth * 17 * s .fc / 20
 
 abbrev pub slabStrip : Slab → ℕ → ℕ
 slabStrip s = blockStrip (s .top) (s .height) (slabForce s)
 
 -- what a layer adds to push and pull of its one strip
 abbrev pub layerForce : BarLayer → ℕ
-layerForce l = l .area * l .«yield_strength»
+layerForce l = l .area * l .fy
 
 abbrev pub layerStrip : BarLayer → ℕ → ℕ
 layerStrip l i = cond (eqb i (l .strip)) (layerForce l) 0
@@ -47,15 +47,15 @@ pub record SlabFits (s : Slab) : Type 0 where
   pub narrow : s .breadth ≤ 4096
   pub tall : 1 ≤ s .height
   pub inside : s .top + s .height ≤ 4096
-  pub weakest : 2000 ≤ s .strength
-  pub strongest : s .strength ≤ 10000
-  pub whole : s .strength % 20 ≡ 0
+  pub weakest : 2000 ≤ s .fc
+  pub strongest : s .fc ≤ 10000
+  pub whole : s .fc % 20 ≡ 0
 
 pub record LayerFits (l : BarLayer) : Type 0 where
   pub inside : l .strip ≤ 4095
   pub some : 1 ≤ l .area
-  pub weakest : 30000 ≤ l .«yield_strength»
-  pub strongest : l .«yield_strength» ≤ 100000
+  pub weakest : 30000 ≤ l .fy
+  pub strongest : l .fy ≤ 100000
 
 abbrev pub LayersFit : List BarLayer → Type 0
 LayersFit [] = Unit {0}

@@ -13,7 +13,7 @@ use Rattle.std.proofs.shelf.Sums.{sumBy-cons}
 use Rattle.section.specs.Strips.{sumTo}
 use Rattle.section.specs.Parts.{Lawful}
 use Rattle.section.specs.Sums.{sumTo-first, sumTo-cong, sumTo-split, sumTo-times, zeros, le-or-lt}
-use Rattle.kinds.specs.Shapes.{tableStrip, Broad}
+use Rattle.kinds.specs.Shapes.{tableStrip}
 
 sum-getD : (bs : List ℕ) (m : ℕ) → length bs ≤ m → sumTo (λ j. getD bs j 0) m ≡ sum bs
 sum-getD [] m l = zeros (λ j. 0) m (λ _ _. refl)

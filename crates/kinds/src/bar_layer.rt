@@ -9,7 +9,7 @@ pub struct BarLayer {
     pub strip: u16,
     // in square sixteenths of an inch
     pub area: u16,
-    pub yield_strength: u32,
+    pub fy: u32,
 }
 
 impl BarLayer {
@@ -18,11 +18,11 @@ impl BarLayer {
         ensures { λ r. ⌜ LayerBlock (now (self .entry)) r ⌝ }
     {
         if self.area < 1
-            || self.yield_strength < LEAST_YIELD
-            || self.yield_strength > GREATEST_YIELD
+            || self.fy < LEAST_YIELD
+            || self.fy > GREATEST_YIELD
         {
             return None;
         }
-        Block::new(self.strip, 1, self.area as u64 * self.yield_strength as u64)
+        Block::new(self.strip, 1, self.area as u64 * self.fy as u64)
     }
 }

@@ -4,7 +4,6 @@ ghost use Prim.Native.Nat.{min};
 ghost use Rattle.section.specs.declared.sense.Sense.{Sense as Senses};
 ghost use Rattle.section.specs.Strips.{noStrips};
 ghost use Rattle.section.specs.Parts.{IsDepth, IsResultants};
-ghost use Rattle.section.specs.Blocks.{stacked};
 ghost use Rattle.kinds.specs.Decks.{pushes-of, bars-of, Filled, Fills};
 ghost use Rattle.kinds.specs.DeckLaws.{deck-laws};
 use crate::bar_layer::BarLayer;

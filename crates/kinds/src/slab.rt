@@ -8,7 +8,7 @@ pub struct Slab {
     pub breadth: u16,
     pub height: u16,
     // f'c in psi
-    pub strength: u16,
+    pub fc: u16,
 }
 
 impl Slab {
@@ -19,13 +19,13 @@ impl Slab {
         if self.breadth < 1 || self.breadth > 4096 || self.height < 1 {
             return None;
         }
-        if self.strength < 2000 || self.strength > 10_000 || self.strength % 20 != 0 {
+        if self.fc < 2000 || self.fc > 10_000 || self.fc % 20 != 0 {
             return None;
         }
         Block::new(
             self.top,
             self.height,
-            self.breadth as u64 * 17 * self.strength as u64 / 20,
+            self.breadth as u64 * 17 * self.fc as u64 / 20,
         )
     }
 }

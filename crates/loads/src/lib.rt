@@ -4,6 +4,8 @@ mod kind;
 mod limit_state;
 mod load_type;
 mod states;
+#[cfg(test)]
+mod tests;
 
 pub use effect::Effect;
 pub use kind::EffectKind;

@@ -109,7 +109,7 @@ Runs L (Lower n) M o = Changes L (lower n) M o
 Runs L (Enter s t e n) M o = Enters L s (load-type t) (effect-kind e) n M o
 Runs L (Strike s) M o = Changes L (strike s) M o
 Runs L (Extremes n e) M o = Asks-extremes L n (effect-kind e) M o
-Runs L (Bending n t b h f) M o = Tells-bending L n (record { top = t; breadth = b; height = h; strength = f }) M o
+Runs L (Bending n t b h f) M o = Tells-bending L n (record { top = t; breadth = b; height = h; fc = f }) M o
 Runs L (Shear n d) M o = Tells-shear L n (spacing-of d) M o
 
 -- an outcome as a call returns it: the line's length, with the line at the front of the buffer and the rest untouched; of a fault, the buffer as it was

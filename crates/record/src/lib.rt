@@ -5,6 +5,8 @@ mod lines;
 mod running;
 mod stepped;
 mod stepping;
+#[cfg(test)]
+mod tests;
 mod transcripts;
 
 pub use stepped::Stepped;

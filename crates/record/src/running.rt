@@ -81,7 +81,7 @@ pub(crate) fn run(
                     top,
                     breadth,
                     height,
-                    strength: fc,
+                    fc,
                 },
                 line,
             )

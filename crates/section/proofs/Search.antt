@@ -1,6 +1,6 @@
 -- The search for the axis by halves: what each turn knows, and what the end shows.
 use mathlib.Core.Path.{_≡_, refl}
-use Prim.Native.Nat.{ℕ, zero, suc, _+_, _-_, _<_, _≤_, min}
+use Prim.Native.Nat.{ℕ, suc, _+_, _-_, _<_, _≤_, min}
 use native.Mathlib.Omega.{arith}
 use Rattle.std.specs.declared.result.Result.{Result}
 use Rattle.std.specs.declared.result.Result.the-variants.{Ok, Err}
@@ -9,7 +9,7 @@ use Rattle.section.specs.declared.sense.Sense.{Sense}
 use Rattle.section.specs.declared.resultants.Resultants.{Resultants}
 use Rattle.section.specs.Strips.{forceAbove, forceBelow, momentAt, imbalanceAt, momentIn, imbalanceIn, strengthAbove, strengthBelow}
 use Rattle.section.specs.Parts.{IsResultants}
-use Rattle.section.specs.Axis.{IsAxis, LacksMoment, AxisAnswer, Judged}
+use Rattle.section.specs.Axis.{IsAxis, AxisAnswer, Judged}
 use Rattle.section.proofs.Levels.{moment-step, above-le, below-ge}
 use Rattle.section.proofs.Turning.{least, before, even}
 

@@ -6,7 +6,7 @@ use native.Mathlib.Omega.{arith}
 use Rattle.section.specs.declared.sense.Sense.{Sense}
 use Rattle.section.specs.declared.sense.Sense.the-variants.{Sagging, Hogging}
 use Rattle.section.specs.declared.resultants.Resultants.{Resultants}
-use Rattle.section.specs.Strips.{sumTo, forceAbove, forceBelow, momentAbove, momentBelow, momentAt, noStrips, _⊕_, strengthAbove, strengthBelow}
+use Rattle.section.specs.Strips.{sumTo, forceAbove, forceBelow, momentAbove, momentBelow, noStrips, _⊕_, strengthAbove, strengthBelow}
 use Rattle.section.specs.Parts.{Lawful, IsDepth, IsResultants}
 use Rattle.section.specs.Sums.{sumTo-cong, sumTo-add, sumTo-le, sumTo-split, sumTo-times, zeros}
 

@@ -1,6 +1,5 @@
 // The plastic neutral axis of two parts together.
-ghost use mathlib.Core.Path.{_≡_};
-ghost use Prim.Native.Nat.{_-_, _+_, _<_, min};
+ghost use Prim.Native.Nat.{min};
 ghost use Rattle.section.specs.Strips.{_⊕_};
 ghost use Rattle.section.specs.Parts.{IsResultants};
 ghost use Rattle.section.specs.Axis.{AxisAnswer, Judged};

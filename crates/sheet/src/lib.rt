@@ -8,6 +8,8 @@ mod plates_resultants;
 mod row;
 mod rows;
 mod telling;
+#[cfg(test)]
+mod tests;
 
 pub use held::Sheet;
 pub use plate::Plate;
