@@ -1,2 +1,4 @@
 pub mod LoadEffects
 pub mod Plates
+pub mod Girders
+pub mod Axes
