@@ -1,2 +1,2 @@
 mod Standing
-mod Found
+mod WorkedAxes

@@ -1,5 +1,5 @@
--- Resultants, depths and sums of standing plates in closed form, slot by slot, so that they compute.
-use mathlib.Core.Path.{_≡_, refl, sym, _∙_}
+-- Resultants, depths and the axis of standing plates in closed form, slot by slot, so that they compute.
+use mathlib.Core.Path.{_≡_}
 use mathlib.Core.List.{List, [], _∷_}
 use Prim.Native.Nat.{ℕ, suc, _+_, _-_, _*_, _<_, _≤_, max}
 use native.Mathlib.Omega.{arith}
@@ -8,10 +8,10 @@ use Rattle.std.specs.declared.option.Option.the-variants.{Some, None}
 use Rattle.section.specs.declared.sense.Sense.{Sense}
 use Rattle.section.specs.declared.sense.Sense.the-variants.{Sagging}
 use Rattle.section.specs.declared.resultants.Resultants.{Resultants}
-use Rattle.section.specs.Strips.{forceAbove, forceBelow, momentAbove, momentBelow, imbalanceAt, noStrips, _⊕_}
+use Rattle.section.specs.Strips.{forceAbove, forceBelow, momentAbove, momentBelow, imbalanceAt, noStrips}
 use Rattle.section.specs.Parts.{IsDepth, IsResultants}
 use Rattle.section.specs.Axis.{IsAxis}
-use Rattle.section.specs.Blocks.{blockStrip, IsBetween}
+use Rattle.section.specs.Blocks.{blockStrip}
 use Rattle.section.proofs.ClosedForm.{between, is-above, is-below, block-depth}
 use Rattle.section.proofs.Search.{turning-axis}
 use Rattle.section.proofs.Together.{resultants-both, resultants-none, halves-alike, depth-both, depth-none}

@@ -1,5 +1,5 @@
 -- Plastic neutral axes of worked sections, as statements on the definitions: level, moment and imbalance.
-use mathlib.Core.List.{List, []}
+use mathlib.Core.List.{[]}
 use Prim.Native.Nat.{ℕ}
 use Rattle.section.specs.declared.sense.Sense.the-variants.{Sagging, Hogging}
 use Rattle.section.specs.Axis.{IsAxis}

@@ -1,5 +1,5 @@
 -- A girder of three plates and a slab on it, as statements on the definitions. Lengths in sixteenths of an inch, strengths in psi.
-use mathlib.Core.List.{List, []}
+use mathlib.Core.List.{[]}
 use Prim.Native.Nat.{ℕ}
 use Rattle.section.specs.Strips.{_⊕_}
 use Rattle.kinds.specs.declared.slab.Slab.{Slab}

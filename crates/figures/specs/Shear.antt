@@ -1,7 +1,6 @@
 -- The shear resistance of the girder's web, as statements on the definitions.
 use mathlib.Core.Path.{_≡_}
 use mathlib.Core.Bool.{true, false}
-use Prim.Native.Nat.{ℕ}
 use Rattle.std.specs.declared.option.Option.the-variants.{Some, None}
 use Rattle.questions.specs.Shear.{spacing-fits, Buckles, IsShearResistance}
 use Rattle.figures.specs.Girders.{girder}

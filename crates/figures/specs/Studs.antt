@@ -1,6 +1,5 @@
 -- The studs between the girder and its deck, as statements on the definitions.
 use mathlib.Core.Path.{_≡_}
-use Prim.Native.Nat.{ℕ}
 use Rattle.questions.specs.declared.stud.Stud.{Stud}
 use Rattle.questions.specs.Studs.{StudFits, IsStudForce, interface-force, IsCount}
 use Rattle.figures.specs.Girders.{girder, deck-pushes}

@@ -3,7 +3,7 @@ use mathlib.Core.Path.{refl}
 use Rattle.sheet.specs.Ledger.{blank, place}
 use Rattle.sheet.proofs.FirstLine.{accepted}
 use Rattle.figures.specs.Axes as axes
-use Rattle.figures.proofs.Found.{thin}
+use Rattle.figures.proofs.WorkedAxes.{thin}
 use Rattle.figures.proofs.axes.thin_plate.Needs as need
 
 pub returns : need.returns

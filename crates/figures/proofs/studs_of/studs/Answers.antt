@@ -14,7 +14,7 @@ use Rattle.questions.proofs.StudCounts.{is-count, all-below}
 use Rattle.figures.specs.Girders.{girder, deck-pushes}
 use Rattle.figures.specs.Studs.{Interface}
 use Rattle.figures.proofs.Standing.{plates-are}
-use Rattle.figures.proofs.Found.{girder-inside}
+use Rattle.figures.proofs.WorkedAxes.{girder-inside}
 use Rattle.figures.proofs.studs_of.studs.Needs as need
 
 deck-total : sumTo deck-pushes 4096 ≡ 668467200

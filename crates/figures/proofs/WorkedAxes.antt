@@ -1,24 +1,22 @@
--- The girder's resultants, and its axes.
+-- The resultants and the axes of the girder and of the thin plate.
 use mathlib.Core.Path.{_≡_, refl, sym, subst, fun-ext}
-use mathlib.Core.List.{List, []}
-use Prim.Native.Nat.{ℕ, suc, _+_, _-_, _*_, _<_, _≤_}
+use mathlib.Core.List.{[]}
+use Prim.Native.Nat.{ℕ, _≤_}
 use native.Mathlib.Nat.{not-suc-le-zero}
 use lib.Dec.{lit<, lit≤}
 use Rattle.section.specs.declared.sense.Sense.{Sense}
 use Rattle.section.specs.declared.sense.Sense.the-variants.{Sagging, Hogging}
-use Rattle.section.specs.declared.resultants.Resultants.{Resultants}
-use Rattle.section.specs.Strips.{noStrips, _⊕_}
-use Rattle.section.specs.Parts.{IsDepth, IsResultants}
+use Rattle.section.specs.Strips.{noStrips}
+use Rattle.section.specs.Parts.{IsResultants}
 use Rattle.section.specs.Axis.{IsAxis}
 use Rattle.section.specs.Blocks.{blockStrip}
 use Rattle.section.proofs.Together.{resultants-both, resultants-none}
-use Rattle.kinds.specs.Decks.{slabStrip, layersStrip}
 use Rattle.kinds.specs.Shapes.{tableStrip}
 use Rattle.kinds.specs.ShapeLaws.{strip-none}
 use Rattle.sheet.specs.PlateStrips.{plate-strips}
 use Rattle.sheet.specs.Ledger.{Ledger}
 use Rattle.questions.specs.Together.{with-plates}
-use Rattle.figures.specs.Girders.{girder, slab, deck-pushes, deck-pulls}
+use Rattle.figures.specs.Girders.{girder, deck-pushes, deck-pulls}
 use Rattle.figures.specs.Axes.{Composite, Cracked, thin-plate}
 use Rattle.figures.proofs.Standing.{Inside, zero-at, both-at, pushed-at, pushed-is, plates-at, plates-are, axis-at}
 
@@ -26,7 +24,6 @@ pub girder-inside : Inside (girder .plates)
 girder-inside = ((lit≤ tt, lit< tt), ((lit≤ tt, lit< tt), ((lit≤ tt, lit< tt), tt)))
 
 -- the deck, and the girder with it
-
 deck-is : (k : ℕ) → k ≤ 4096 → IsResultants Sagging deck-pushes deck-pulls k (both-at (pushed-at 0 128 5222400 k) zero-at)
 deck-is k l = resultants-both Sagging (blockStrip 0 128 5222400) noStrips noStrips noStrips k (pushed-at 0 128 5222400 k) zero-at (pushed-is 0 128 5222400 k (lit≤ tt) l) (resultants-none Sagging k l)
 
