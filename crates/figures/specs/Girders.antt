@@ -32,7 +32,7 @@ Girder = Accepted blank (place 0 top-flange) × Accepted one-placed (place 1 web
 
 -- a slab above it
 abbrev pub slab : Slab
-slab = record { top = 0; breadth = 1536; height = 128; strength = 4000 }
+slab = record { top = 0; breadth = 1536; height = 128; fc = 4000 }
 
 -- what a deck of the slab and no bars pushes and pulls with; cracked, it pushes with no more than it pulls
 abbrev pub deck-pushes : ℕ → ℕ
