@@ -1,7 +1,7 @@
 -- The number and the layer of each refusal, and the slot that it names.
 use Prim.Native.Nat.{ℕ}
 use Rattle.std.specs.declared.option.Option.{Option}
-use Rattle.std.specs.declared.option.Option.the-variants.{Some, None}
+use Rattle.std.specs.declared.option.Option.the-variants.{None}
 use Rattle.faults.specs.declared.layer.Layer.{Layer}
 use Rattle.faults.specs.declared.layer.Layer.the-variants as layers
 use Rattle.faults.specs.declared.value.ValueFault.{ValueFault}
@@ -54,7 +54,7 @@ sheet-layer f = reason-layer (f .reason)
 abbrev pub part-number : PartFault → ℕ
 part-number OutsideLimits = 10
 
--- a smallest plastic moment of 0; a role that lacks; a spacing or a stud outside its limits; factors that are no ranges within 0 to 1,000; a published state's number that is not 1 to 9
+-- a smallest plastic moment of 0; a flange or web that is missing; a spacing or a stud outside its limits; factors that are no ranges within 0 to 1,000; a published state's number that is not 1 to 9
 abbrev pub question-number : QuestionFault → ℕ
 question-number NoMoment = 11
 question-number PlateMissing = 12

@@ -6,7 +6,7 @@ ghost use Rattle.faults.specs.Numbers.{question-number};
 pub enum QuestionFault {
     // a smallest plastic moment of 0
     NoMoment,
-    // a flange or the web that the question reads lacks
+    // a flange or the web that the question reads is missing
     PlateMissing,
     // a stiffener spacing outside its range
     SpacingLimits,

@@ -2,7 +2,7 @@
 use mathlib.Core.Path.{_≡_}
 use mathlib.Core.Bool.{true, false}
 use Prim.Native.Nat.{ℕ}
-use lib.IntN.{ℤ, pos, negℤ}
+use lib.IntN.{pos, negℤ}
 use lib.Ieee.{Float, fin}
 use Rattle.loads.specs.declared.load_type.LoadType.{LoadType}
 use Rattle.loads.specs.declared.load_type.LoadType.the-variants.{Dc, Dw, Ll}

@@ -17,10 +17,7 @@ impl BarLayer {
     pub(crate) fn block(&self) -> Option<Block>
         ensures { λ r. ⌜ LayerBlock (now (self .entry)) r ⌝ }
     {
-        if self.area < 1
-            || self.fy < LEAST_YIELD
-            || self.fy > GREATEST_YIELD
-        {
+        if self.area < 1 || self.fy < LEAST_YIELD || self.fy > GREATEST_YIELD {
             return None;
         }
         Block::new(self.strip, 1, self.area as u64 * self.fy as u64)

@@ -66,11 +66,7 @@ impl<'a> Shape<'a> {
         ensures unfit { λ r. ⌜ ((ShapeFits top fy (now (breadths .entry)) → ⊥) → tableStrip (r .top) (r .fy) (now (r .breadths)) ≡ noStrips) ⌝ }
     {
         match Shape::tried(top, fy, breadths) {
-            Ok(()) => Shape {
-                top,
-                fy,
-                breadths,
-            },
+            Ok(()) => Shape { top, fy, breadths },
             Err(_) => Shape::empty(),
         }
     }

@@ -20,7 +20,12 @@ fn alone<P: Part>(part: &P, sense: Sense) -> (u16, u64, u64) {
 }
 
 fn filled(deck: &mut Deck, layers: &[BarLayer]) -> u8 {
-    let slab = Slab { top: 0, breadth: 960, height: 128, fc: 4000 };
+    let slab = Slab {
+        top: 0,
+        breadth: 960,
+        height: 128,
+        fc: 4000,
+    };
     match deck.fill(slab, layers) {
         Ok(()) => 0,
         Err(fault) => fault.number(),
@@ -30,14 +35,31 @@ fn filled(deck: &mut Deck, layers: &[BarLayer]) -> u8 {
 #[test]
 fn a_deck_and_its_bars() -> Result<(), Fail> {
     let mut deck = Deck::empty();
-    let low = BarLayer { strip: 176, area: 8882, fy: 30_000 };
-    let high = BarLayer { strip: 166, area: 4957, fy: 60_000 };
+    let low = BarLayer {
+        strip: 176,
+        area: 8882,
+        fy: 30_000,
+    };
+    let high = BarLayer {
+        strip: 166,
+        area: 4957,
+        fy: 60_000,
+    };
     check_eq(alone(&deck, Sense::Sagging), (0, 0, 0))?;
     check_eq(filled(&mut deck, &[low, high]), 0)?;
     check_eq(filled(&mut deck, &[low; 7]), 10)?;
-    check_eq(alone(&deck, Sense::Hogging), (167, 5_360_160_000, 30_960_000))?;
-    check_eq(alone(&deck, Sense::Sagging), (166, 91_122_648_000, 146_088_000))?;
-    check_eq(alone(&deck.cracked(), Sense::Sagging), (167, 5_360_160_000, 30_960_000))
+    check_eq(
+        alone(&deck, Sense::Hogging),
+        (167, 5_360_160_000, 30_960_000),
+    )?;
+    check_eq(
+        alone(&deck, Sense::Sagging),
+        (166, 91_122_648_000, 146_088_000),
+    )?;
+    check_eq(
+        alone(&deck.cracked(), Sense::Sagging),
+        (167, 5_360_160_000, 30_960_000),
+    )
 }
 
 #[test]

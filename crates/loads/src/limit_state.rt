@@ -1,5 +1,4 @@
 // What a limit state holds.
-ghost use Prim.Native.Nat.{_≤_};
 ghost use Rattle.loads.specs.Factors.{Lawful};
 
 // For each load type, in the order DC, DW, LL, WS, a low and a high factor in hundredths.

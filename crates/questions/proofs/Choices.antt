@@ -111,3 +111,16 @@ module _ (fs : List (ℕ × ℕ)) (k : EffectKind) (rows : List (Option Row)) (l
       go : (natAbs low < natAbs high) ⊎ (natAbs high ≤ natAbs low) → (choice : Choice) × Chosen fs choice × (m < natAbs (factored choice k rows) * 16000)
       go (inl h) = let f = e .high-met in (f .0, f .1, subst (λ (z : ℤ). m < natAbs z * 16000) (sym (f .2)) (let g : m < natAbs high * 16000 = omega arith in g))
       go (inr h) = let f = e .low-met in (f .0, f .1, subst (λ (z : ℤ). m < natAbs z * 16000) (sym (f .2)) (let g : m < natAbs low * 16000 = omega arith in g))
+
+-- the extremes are one pair of numbers
+pub extremes-only : (fs : List (ℕ × ℕ)) (k : EffectKind) (rows : List (Option Row)) (low high l h : ℤ) → Extremes fs k rows low high → Extremes fs k rows l h → (l ≡ low) × (h ≡ high)
+extremes-only fs k rows low high l h x y =
+    let a = x .low-met in
+    let b = y .low-met in
+    let c = x .high-met in
+    let d = y .high-met in
+    let p = x .between (b .0) (b .1) .0 in
+    let q = y .between (a .0) (a .1) .0 in
+    let r = x .between (d .0) (d .1) .1 in
+    let s = y .between (c .0) (c .1) .1 in
+    (omega (arith, ints, b .2, a .2), omega (arith, ints, d .2, c .2))

@@ -59,7 +59,7 @@ not-compact top web bottom dp =
 abbrev pub brittle : ℕ → ℕ → Bool
 brittle dp dt = ltb (42 * dt) (100 * dp)
 
--- a role of the three lacks
+-- one of the three roles is missing
 abbrev pub Lacks : Ledger → Type 0
 Lacks L = (standing TopFlange (L .plates) ≡ None) ⊎ ((standing Web (L .plates) ≡ None) ⊎ (standing BottomFlange (L .plates) ≡ None))
 
@@ -89,7 +89,7 @@ pub record IsResistance (L : Ledger) (pushes pulls : ℕ → ℕ) (r : Resistanc
   pub compact : r .compact ≡ not (not-compact top web bottom (axis .0))
   pub ductile : r .ductile ≡ not (brittle (axis .0) (max plates-depth part-depth))
 
--- refused with 11 where some level has no moment, with 12 where it has an axis and a role lacks
+-- refused with 11 where some level has no moment, with 12 where there is an axis and one of the three is missing
 abbrev pub RefusesBending : Ledger → (ℕ → ℕ) → (ℕ → ℕ) → QuestionFault → Type 0
 RefusesBending L pushes pulls NoMoment = LacksMoment Sagging (with-plates L pushes) (with-plates L pulls)
 RefusesBending L pushes pulls PlateMissing = ((axis : ℕ × ℕ × ℕ) × IsAxis Sagging (with-plates L pushes) (with-plates L pulls) axis × (0 < axis .1)) × Lacks L

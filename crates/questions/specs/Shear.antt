@@ -52,7 +52,7 @@ pub record IsShearResistance (L : Ledger) (spacing : Option ℕ) (v : ℕ) : Typ
   pub buckles : Buckles (web .height) spacing k
   pub is-force : IsShearForce (web .height) (web .breadth) (web .fy) k v
 
--- refused with 12 where the web lacks, with 13 where it stands and the spacing is outside its range
+-- refused with 12 where the web is missing, with 13 where it stands and the spacing is outside its range
 abbrev pub RefusesShear : Ledger → Option ℕ → QuestionFault → Type 0
 RefusesShear L spacing NoMoment = ⊥
 RefusesShear L spacing PlateMissing = standing Web (L .plates) ≡ None

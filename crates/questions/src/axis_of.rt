@@ -1,7 +1,7 @@
 // The plastic neutral axis of a sheet's plates with one further part.
 ghost use Rattle.section.specs.Axis.{AxisAnswer};
 ghost use Rattle.sheet.specs.Ledger.{ledger};
-ghost use Rattle.questions.specs.Together.{with-plates};
+ghost use Rattle.questions.specs.Together.{with-plates, OnlyAxis};
 use faults::QuestionFault;
 use section::Part;
 use section::Sense;
@@ -16,7 +16,8 @@ pub fn axis<P: Part>(
     part: &P,
     sense: Sense,
 ) -> Result<(u16, u64, u64), QuestionFault>
-    ensures { λ r. ⌜ AxisAnswer sense (with-plates (ledger (now (sheet .entry))) (pushes (now (part .entry)))) (with-plates (ledger (now (sheet .entry))) (pulls (now (part .entry)))) r ⌝ }
+    ensures answer { λ r. ⌜ AxisAnswer sense (with-plates (ledger (now (sheet .entry))) (pushes (now (part .entry)))) (with-plates (ledger (now (sheet .entry))) (pulls (now (part .entry)))) r ⌝ }
+    ensures only { λ r. ⌜ OnlyAxis sense (with-plates (ledger (now (sheet .entry))) (pushes (now (part .entry)))) (with-plates (ledger (now (sheet .entry))) (pulls (now (part .entry)))) r ⌝ }
 {
     plastic_axis(sheet, part, sense)
 }

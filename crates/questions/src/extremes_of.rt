@@ -1,7 +1,7 @@
 // The extremes of the factored sum, over all choices of load factors.
 ghost use mathlib.Core.Path.{_≡_};
 ghost use Prim.Native.Nat.{_^_, _≤_};
-ghost use lib.IntN.{natAbs, _+ℤ_};
+ghost use lib.IntN.{ℤ, natAbs, _+ℤ_};
 ghost use Rattle.loads.specs.Factors.{range};
 ghost use Rattle.sheet.specs.Ledger.{ledger};
 ghost use Rattle.questions.specs.Extremes.{Extremes};
@@ -14,7 +14,8 @@ use sheet::Sheet;
 // The least and the greatest factored sum of the standing moments or shears, in hundredths of a
 // sixteenth.
 pub fn extremes(sheet: &Sheet, state: &LimitState, kind: EffectKind) -> (i64, i64)
-    ensures { λ r. ⌜ Extremes (now (state .entry) .factors) kind (ledger (now (sheet .entry)) .rows) (r .0) (r .1) ⌝ }
+    ensures answer { λ r. ⌜ Extremes (now (state .entry) .factors) kind (ledger (now (sheet .entry)) .rows) (r .0) (r .1) ⌝ }
+    ensures only { λ r. ⌜ ((low high : ℤ) → Extremes (now (state .entry) .factors) kind (ledger (now (sheet .entry)) .rows) low high → (low ≡ r .0) × (high ≡ r .1)) ⌝ }
 {
     // A type's factor goes to all its rows, so each type's extremes come from its sum alone.
     let [dc, dw, ll, ws] = sheet.type_sums(kind);

@@ -23,7 +23,7 @@ use Rattle.command.proofs.Shorter.{shorter}
 use Rattle.record.specs.declared.stepped.Stepped.{Stepped}
 use Rattle.record.specs.Lines.{fault-line, Wrote}
 use Rattle.record.specs.Runs.{Outcome}
-use Rattle.record.specs.Steps.{Obeys, Advances, step-text, reported, Steps, Report, MakesStep}
+use Rattle.record.specs.Steps.{Obeys, Advances, step-text, report-of, Steps, Report, MakesStep}
 use Rattle.record.specs.Transcripts.{Follows, Reads, ended, stepped, Transcript}
 
 not-so : (b : Bool) (P Q : Type 0) → b ≡ false → When b P Q → Q

@@ -19,7 +19,7 @@ use Rattle.loads.specs.Factors.{states}
 use Rattle.sheet.specs.Ledger.{Ledger}
 use Rattle.questions.specs.Extremes.{Extremes}
 use Rattle.record.specs.Lines.{extremes-line, Wrote}
-use Rattle.record.specs.Runs.{Outcome, Asks-extremes, Reported, Runs, quiet, no-line, slab-pushes, slab-pulls, Tells-bending, Tells-shear}
+use Rattle.record.specs.Runs.{Outcome, Asks-extremes, Delivers, Runs, quiet, no-line, slab-pushes, slab-pulls, Tells-bending, Tells-shear}
 use Rattle.std.specs.declared.option.Option.{Option}
 use Rattle.kinds.specs.declared.slab.Slab.{Slab}
 use Rattle.kinds.specs.Decks.{DeckFits}
@@ -31,24 +31,24 @@ use Rattle.command.specs.declared.commands.Command.{Command}
 pub wrapped : {F : Type 0} (wrap : F → RecordFault) (f : F) (r : Result ℕ RecordFault) → ErrBy r (λ g. g ≡ wrap f) → r ≡ Err (wrap f)
 wrapped wrap f r e = let p = err-from-errBy r e in p .1 ∙ ap Err (p .2)
 
-pub faulted : (H : Outcome → Type 0) (before : List ℕ) (r : Result ℕ RecordFault) (f : RecordFault) → r ≡ Err f → H (Err f) → Reported H before r before
-faulted H before r f e h = subst (λ x. Reported H before x before) (sym e) (record { outcome = Err f; holds = h; returns = (refl, refl) })
+pub faulted : (H : Outcome → Type 0) (before : List ℕ) (r : Result ℕ RecordFault) (f : RecordFault) → r ≡ Err f → H (Err f) → Delivers H before r before
+faulted H before r f e h = subst (λ x. Delivers H before x before) (sym e) (record { outcome = Err f; holds = h; returns = (refl, refl) })
 
-pub silent : (H : Outcome → Type 0) (before : List ℕ) → H (Ok []) → Reported H before (Ok 0) before
+pub silent : (H : Outcome → Type 0) (before : List ℕ) → H (Ok []) → Delivers H before (Ok 0) before
 silent H before h = record { outcome = Ok []; holds = h; returns = record { len = refl; after = refl } }
 
 -- a change's result, with no line
-pub unprinted : (H : Outcome → Type 0) (before : List ℕ) (r : Result (Unit {0}) RecordFault) (q : Result ℕ RecordFault) → q ≡ no-line r → H (quiet r) → Reported H before q before
-unprinted H before (Ok u) q e h = subst (λ x. Reported H before x before) (sym e) (silent H before h)
+pub unprinted : (H : Outcome → Type 0) (before : List ℕ) (r : Result (Unit {0}) RecordFault) (q : Result ℕ RecordFault) → q ≡ no-line r → H (quiet r) → Delivers H before q before
+unprinted H before (Ok u) q e h = subst (λ x. Delivers H before x before) (sym e) (silent H before h)
 unprinted H before (Err f) q e h = faulted H before q f e h
 
-pub printed : (H : Outcome → Type 0) (before : List ℕ) (text : List ℕ) (n : ℕ) (after : List ℕ) → H (Ok text) → Wrote text before n after → Reported H before (Ok n) after
+pub printed : (H : Outcome → Type 0) (before : List ℕ) (text : List ℕ) (n : ℕ) (after : List ℕ) → H (Ok text) → Wrote text before n after → Delivers H before (Ok n) after
 printed H before text n after h w = record { outcome = Ok text; holds = h; returns = w }
 
 -- a command that is a change
 pub changed-by : (L : Ledger) (c : Command) {d : Command} (M : Ledger) (before : List ℕ) (r : Result (Unit {0}) RecordFault) (q : Result ℕ RecordFault) →
-    c ≡ d → q ≡ no-line r → Runs L d M (quiet r) → Reported (Runs L c M) before q before
-changed-by L c {d} M before r q is e h = subst (λ x. Reported (Runs L x M) before q before) (sym is) (unprinted (Runs L d M) before r q e h)
+    c ≡ d → q ≡ no-line r → Runs L d M (quiet r) → Delivers (Runs L c M) before q before
+changed-by L c {d} M before r q is e h = subst (λ x. Delivers (Runs L x M) before q before) (sym is) (unprinted (Runs L d M) before r q e h)
 
 -- the extremes' question by the code that was read
 module _ (L : Ledger) (n : ℕ) (k : Result EffectKind ReadFault) where

@@ -22,8 +22,8 @@ use Rattle.command.specs.declared.commands.Command.{Command}
 use Rattle.command.specs.Bytes.{parsed}
 use Rattle.record.specs.declared.stepped.Stepped.{Stepped}
 use Rattle.record.specs.Lines.{fault-line, Wrote}
-use Rattle.record.specs.Runs.{Outcome, Runs, Reported}
-use Rattle.record.specs.Steps.{Obeys, Advances, halted, reported, fault-at, Steps, MakesStep}
+use Rattle.record.specs.Runs.{Outcome, Runs, Delivers}
+use Rattle.record.specs.Steps.{Obeys, Advances, halted, report-of, fault-at, Steps, MakesStep}
 
 yes : (b : Bool) (P Q : Type 0) → b ≡ true → P → When b P Q
 yes true P Q e p = p
@@ -52,8 +52,8 @@ module _ (L : Ledger) (bytes : List ℕ) (place : ℕ) where
     unread f e = within L (length bytes) (Err (Reading f)) (subst (λ r. Obeys L bytes r L (length bytes) (Err (Reading f))) (read-here (Err f) e) ((refl, refl), refl))
 
     pub ran : (c : Command) (rest : List ℕ) (M : Ledger) (before : List ℕ) (q : Result ℕ RecordFault) (after : List ℕ) →
-        Ok (c, rest) ≡ parsed (take (length bytes - place) (drop place bytes)) → Reported (Runs L c M) before q after →
-        Reported (Advances L bytes place M (length bytes - length rest)) before q after
+        Ok (c, rest) ≡ parsed (take (length bytes - place) (drop place bytes)) → Delivers (Runs L c M) before q after →
+        Delivers (Advances L bytes place M (length bytes - length rest)) before q after
     ran c rest M before q after e x = record {
       outcome = x .outcome;
       holds = within M (length bytes - length rest) (x .outcome) (subst (λ r. Obeys L bytes r M (length bytes - length rest) (x .outcome)) (read-here (Ok (c, rest)) e) (x .holds, refl));
@@ -79,24 +79,24 @@ module _ (L : Ledger) (bytes : List ℕ) (place : ℕ) (before : List ℕ) (s : 
 
 -- a step that goes on
 module _ (L : Ledger) (bytes : List ℕ) (place : ℕ) (before : List ℕ) (few : length bytes ≤ 65536) (room : 64 ≤ length before) (M : Ledger) (next : ℕ) where
-  goes : (o : Outcome) → Advances L bytes place M next o → Steps L bytes place (length before) M (reported place next o)
+  goes : (o : Outcome) → Advances L bytes place M next o → Steps L bytes place (length before) M (report-of place next o)
   goes o a = no _ _ _ (le-ltb 65536 (length bytes) few) (no _ _ _ (le-ltb (length before) 64 room) (next, o, a, refl))
 
-  pub wrote-line : (n : ℕ) (after : List ℕ) → Reported (Advances L bytes place M next) before (Ok n) after → MakesStep L bytes place before M (record { place = next; written = n; fault = None }) after
+  pub wrote-line : (n : ℕ) (after : List ℕ) → Delivers (Advances L bytes place M next) before (Ok n) after → MakesStep L bytes place before M (record { place = next; written = n; fault = None }) after
   wrote-line n after x = go (x .outcome) (x .holds) (x .returns)
     where
       go : (o : Outcome) → Advances L bytes place M next o → Rattle.record.specs.Runs.Returns before o (Ok n) after → MakesStep L bytes place before M (record { place = next; written = n; fault = None }) after
-      go (Ok text) a w = record { report = reported place next (Ok text); steps = goes (Ok text) a; place = refl; wrote = w; fault = refl }
+      go (Ok text) a w = record { report = report-of place next (Ok text); steps = goes (Ok text) a; place = refl; wrote = w; fault = refl }
       go (Err f) a w = absurd w
 
-  pub wrote-fault : (f : RecordFault) (middle : List ℕ) (n : ℕ) (after : List ℕ) → Reported (Advances L bytes place M next) before (Err f) middle → Wrote (fault-line place f) middle n after →
+  pub wrote-fault : (f : RecordFault) (middle : List ℕ) (n : ℕ) (after : List ℕ) → Delivers (Advances L bytes place M next) before (Err f) middle → Wrote (fault-line place f) middle n after →
       MakesStep L bytes place before M (record { place = next; written = n; fault = fault-at place f }) after
   wrote-fault f middle n after x w = go (x .outcome) (x .holds) (x .returns)
     where
       go : (o : Outcome) → Advances L bytes place M next o → Rattle.record.specs.Runs.Returns before o (Err f) middle → MakesStep L bytes place before M (record { place = next; written = n; fault = fault-at place f }) after
       go (Ok text) a v = absurd v
       go (Err g) a v = record {
-        report = reported place next (Err g);
+        report = report-of place next (Err g);
         steps = goes (Err g) a;
         place = refl;
         wrote = subst (λ h. Wrote (fault-line place h) before n after) (v .0) (subst (λ b. Wrote (fault-line place f) b n after) (v .1) w);

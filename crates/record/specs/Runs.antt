@@ -120,7 +120,7 @@ Returns before (Err f) (Ok n) after = ⊥
 Returns before (Err f) (Err g) after = (g ≡ f) × (after ≡ before)
 
 -- a call with a line buffer, whose outcome holds of what it was asked
-pub record Reported (Holds : Outcome → Type 0) (before : List ℕ) (r : Result ℕ RecordFault) (after : List ℕ) : Type 0 where
+pub record Delivers (Holds : Outcome → Type 0) (before : List ℕ) (r : Result ℕ RecordFault) (after : List ℕ) : Type 0 where
   pub outcome : Outcome
   pub holds : Holds outcome
   pub returns : Returns before outcome r after

@@ -55,15 +55,15 @@ abbrev pub step-fault : ℕ → Outcome → Option Fault
 step-fault place (Ok text) = None
 step-fault place (Err f) = fault-at place f
 
-abbrev pub reported : ℕ → ℕ → Outcome → Report
-reported place next o = record { next = next; text = step-text place o; fault = step-fault place o }
+abbrev pub report-of : ℕ → ℕ → Outcome → Report
+report-of place next o = record { next = next; text = step-text place o; fault = step-fault place o }
 
 -- a step from a place with a line buffer of this length
 abbrev pub Steps : Ledger → List ℕ → ℕ → ℕ → Ledger → Report → Type 0
 Steps L bytes place buffer M report =
     When (ltb 65536 (length bytes)) ((M ≡ L) × (report ≡ halted place TooLong))
     (When (ltb buffer 64) ((M ≡ L) × (report ≡ halted place ShortBuffer))
-    ((next : ℕ) × (o : Outcome) × Advances L bytes place M next o × (report ≡ reported place next o)))
+    ((next : ℕ) × (o : Outcome) × Advances L bytes place M next o × (report ≡ report-of place next o)))
 
 -- a call that makes a step: what it leaves, with the line at the front of the buffer and the rest untouched
 pub record MakesStep (L : Ledger) (bytes : List ℕ) (from : ℕ) (before : List ℕ) (M : Ledger) (s : Stepped) (after : List ℕ) : Type 0 where

@@ -5,7 +5,7 @@ ghost use lib.ListN.{length};
 ghost use Rattle.sheet.specs.Ledger as calls;
 ghost use Rattle.sheet.specs.Ledger.{ledger};
 ghost use Rattle.record.specs.Codes.{load-type, effect-kind, spacing-of};
-ghost use Rattle.record.specs.Runs.{Reported, Runs, Enters, Changes, Asks-extremes, Tells-bending, Tells-shear, quiet, no-line};
+ghost use Rattle.record.specs.Runs.{Delivers, Runs, Enters, Changes, Asks-extremes, Tells-bending, Tells-shear, quiet, no-line};
 use crate::codes::effect_kind;
 use crate::codes::load_type;
 use crate::codes::spacing_of;
@@ -34,7 +34,7 @@ pub(crate) fn run(
     line: &mut [u8],
 ) -> Result<usize, RecordFault>
     requires { ⌜ 64 ≤ length (now line) ⌝ }
-    ensures { λ r. ⌜ Reported (Runs (ledger (now (sheet .entry))) command (ledger (now (sheet .exit)))) (now (line .entry)) r (now (line .exit)) ⌝ }
+    ensures { λ r. ⌜ Delivers (Runs (ledger (now (sheet .entry))) command (ledger (now (sheet .exit)))) (now (line .entry)) r (now (line .exit)) ⌝ }
 {
     match command {
         Command::Place {
@@ -143,7 +143,7 @@ fn run_strike(sheet: &mut Sheet, slot: u8) -> Result<(), RecordFault>
 
 fn run_extremes(sheet: &Sheet, state: u8, effect: u8, line: &mut [u8]) -> Result<usize, RecordFault>
     requires { ⌜ 64 ≤ length (now line) ⌝ }
-    ensures { λ r. ⌜ Reported (Asks-extremes (ledger (now (sheet .entry))) state (effect-kind effect) (ledger (now (sheet .entry)))) (now (line .entry)) r (now (line .exit)) ⌝ }
+    ensures { λ r. ⌜ Delivers (Asks-extremes (ledger (now (sheet .entry))) state (effect-kind effect) (ledger (now (sheet .entry)))) (now (line .entry)) r (now (line .exit)) ⌝ }
 {
     let kind = effect_kind(effect)?;
     let state = LimitState::published(state)?;
@@ -154,7 +154,7 @@ fn run_extremes(sheet: &Sheet, state: u8, effect: u8, line: &mut [u8]) -> Result
 // The state is looked up last, so that a fault of the section is found first.
 fn run_bending(sheet: &Sheet, state: u8, slab: Slab, line: &mut [u8]) -> Result<usize, RecordFault>
     requires { ⌜ 64 ≤ length (now line) ⌝ }
-    ensures { λ r. ⌜ Reported (Tells-bending (ledger (now (sheet .entry))) state slab (ledger (now (sheet .entry)))) (now (line .entry)) r (now (line .exit)) ⌝ }
+    ensures { λ r. ⌜ Delivers (Tells-bending (ledger (now (sheet .entry))) state slab (ledger (now (sheet .entry)))) (now (line .entry)) r (now (line .exit)) ⌝ }
 {
     let mut deck = Deck::empty();
     deck.fill(slab, &[])?;
@@ -166,7 +166,7 @@ fn run_bending(sheet: &Sheet, state: u8, slab: Slab, line: &mut [u8]) -> Result<
 
 fn run_shear(sheet: &Sheet, state: u8, spacing: u16, line: &mut [u8]) -> Result<usize, RecordFault>
     requires { ⌜ 64 ≤ length (now line) ⌝ }
-    ensures { λ r. ⌜ Reported (Tells-shear (ledger (now (sheet .entry))) state (spacing-of spacing) (ledger (now (sheet .entry)))) (now (line .entry)) r (now (line .exit)) ⌝ }
+    ensures { λ r. ⌜ Delivers (Tells-shear (ledger (now (sheet .entry))) state (spacing-of spacing) (ledger (now (sheet .entry)))) (now (line .entry)) r (now (line .exit)) ⌝ }
 {
     let spacing = spacing_of(spacing);
     let force = questions::shear_resistance(sheet, spacing)?;

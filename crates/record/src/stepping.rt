@@ -4,7 +4,7 @@ ghost use Prim.Native.Nat.{_≤_};
 ghost use lib.ListN.{length};
 ghost use Rattle.faults.specs.declared.recorded.RecordFault.the-variants.{Reading};
 ghost use Rattle.sheet.specs.Ledger.{ledger};
-ghost use Rattle.record.specs.Runs.{Reported};
+ghost use Rattle.record.specs.Runs.{Delivers};
 ghost use Rattle.record.specs.Steps.{Advances, MakesStep, fault-at};
 use crate::lines::write_fault;
 use crate::running::run;
@@ -67,7 +67,7 @@ fn advance(
     line: &mut [u8],
 ) -> (usize, Result<usize, RecordFault>)
     requires { ⌜ 64 ≤ length (now line) ⌝ }
-    ensures { λ r. ⌜ Reported (Advances (ledger (now (sheet .entry))) (now (bytes .entry)) place (ledger (now (sheet .exit))) (r .0)) (now (line .entry)) (r .1) (now (line .exit)) ⌝ }
+    ensures { λ r. ⌜ Delivers (Advances (ledger (now (sheet .entry))) (now (bytes .entry)) place (ledger (now (sheet .exit))) (r .0)) (now (line .entry)) (r .1) (now (line .exit)) ⌝ }
 {
     let end = bytes.len();
     if place == end {

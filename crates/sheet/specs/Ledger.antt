@@ -1,4 +1,4 @@
--- The ledger: the slots as the calls alone make them, which call is refused and with which number, and what a call leaves. It never looks at a sheet's code.
+-- The ledger: the slots as the calls alone make them, which call is refused and with which number, and what a call leaves. Refusals and changes are defined from the calls; `ledger` only reads off what stands in a sheet's slots.
 use mathlib.Core.Path.{_≡_}
 use mathlib.Core.Bool.{Bool, true, false, cond, not}
 use mathlib.Core.List.{List, [], _∷_}

@@ -9,7 +9,7 @@ use Rattle.loads.specs.Factors.{index, range}
 use Rattle.sheet.specs.Totals.{type-sum}
 use Rattle.questions.specs.Products.{least, greatest, Small}
 use Rattle.questions.proofs.Products.{bits, sum-bits, small-bits, total-is}
-use Rattle.questions.proofs.Choices.{extremes-from}
+use Rattle.questions.proofs.Choices.{extremes-from, extremes-only}
 use Rattle.questions.proofs.extremes_of.extremes.Needs as need
 
 passed : (z : ℤ) → natAbs z ≤ 2 ^ 37 → natAbs (bits z) ≤ 2 ^ 37
@@ -51,6 +51,7 @@ returns c =
     let highs =
     total-is (c .type-extremes-dc .result .1) (c .type-extremes-dw .result .1) (c .type-extremes-ll .result .1) (c .type-extremes-ws .result .1)
     (c .type-extremes-dc .ensures .small .1) (c .type-extremes-dw .ensures .small .1) (c .type-extremes-ll .ensures .small .1) (c .type-extremes-ws .ensures .small .1) (c .sum-of-2 .result) (c .sum-of-2 .ensures) in
-    extremes-from fs k rows _ _ (c .args .state .now .lawful)
+    let found = extremes-from fs k rows _ _ (c .args .state .now .lawful)
     (lows ∙ (λ i. (c .type-extremes-dc .ensures .low ∙ ap (least (range fs Dc)) (sum Dc)) i +ℤ (c .type-extremes-dw .ensures .low ∙ ap (least (range fs Dw)) (sum Dw)) i +ℤ (c .type-extremes-ll .ensures .low ∙ ap (least (range fs Ll)) (sum Ll)) i +ℤ (c .type-extremes-ws .ensures .low ∙ ap (least (range fs Ws)) (sum Ws)) i))
-    (highs ∙ (λ i. (c .type-extremes-dc .ensures .high ∙ ap (greatest (range fs Dc)) (sum Dc)) i +ℤ (c .type-extremes-dw .ensures .high ∙ ap (greatest (range fs Dw)) (sum Dw)) i +ℤ (c .type-extremes-ll .ensures .high ∙ ap (greatest (range fs Ll)) (sum Ll)) i +ℤ (c .type-extremes-ws .ensures .high ∙ ap (greatest (range fs Ws)) (sum Ws)) i))
+    (highs ∙ (λ i. (c .type-extremes-dc .ensures .high ∙ ap (greatest (range fs Dc)) (sum Dc)) i +ℤ (c .type-extremes-dw .ensures .high ∙ ap (greatest (range fs Dw)) (sum Dw)) i +ℤ (c .type-extremes-ll .ensures .high ∙ ap (greatest (range fs Ll)) (sum Ll)) i +ℤ (c .type-extremes-ws .ensures .high ∙ ap (greatest (range fs Ws)) (sum Ws)) i)) in
+    record { answer = found; only = λ l h x. extremes-only fs k rows _ _ l h found x }

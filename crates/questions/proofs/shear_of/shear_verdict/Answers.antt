@@ -18,7 +18,7 @@ returns-then-from c =
     let f : SFits w64 low = search needs in
     let g : SFits w64 high = search needs in
     let m : c .from .result ≡ max (natAbs low) (natAbs high) = c .from .ensures ∙ c .max-largest .ensures ∙ (λ i. max ((c .unsigned-abs .ensures .value ∙ ap natAbs (toZ-ofZ f)) i) ((c .unsigned-abs-2 .ensures .value ∙ ap natAbs (toZ-ofZ g)) i)) in
-    some-larger (c .args .state .now .factors) Shear (c .args .sheet .now .rows .slots) low high (c .extremes-low .ensures) (100 * c .args .resistance) (omega (arith, c .if-from .taken, c .from-2 .ensures))
+    some-larger (c .args .state .now .factors) Shear (c .args .sheet .now .rows .slots) low high (c .extremes-low .ensures .answer) (100 * c .args .resistance) (omega (arith, c .if-from .taken, c .from-2 .ensures))
 
 pub returns-else-from : need.returns-else-from
 returns-else-from c =
@@ -27,4 +27,4 @@ returns-else-from c =
     let f : SFits w64 low = search needs in
     let g : SFits w64 high = search needs in
     let m : c .from .result ≡ max (natAbs low) (natAbs high) = c .from .ensures ∙ c .max-largest .ensures ∙ (λ i. max ((c .unsigned-abs .ensures .value ∙ ap natAbs (toZ-ofZ f)) i) ((c .unsigned-abs-2 .ensures .value ∙ ap natAbs (toZ-ofZ g)) i)) in
-    none-larger (c .args .state .now .factors) Shear (c .args .sheet .now .rows .slots) low high (c .extremes-low .ensures) (100 * c .args .resistance) (omega (arith, c .if-from .left, c .from-2 .ensures))
+    none-larger (c .args .state .now .factors) Shear (c .args .sheet .now .rows .slots) low high (c .extremes-low .ensures .answer) (100 * c .args .resistance) (omega (arith, c .if-from .left, c .from-2 .ensures))

@@ -43,7 +43,7 @@ returns c =
     let g : SFits w64 high = search needs in
     let state = c .in-Continue-state .ensures tt in
     let kind = c .in-Continue-kind .kind in
-    let found = subst (λ fs. Extremes fs kind (L .rows) low high) (state .2) (c .extremes-low .ensures) in
+    let found = subst (λ fs. Extremes fs kind (L .rows) low high) (state .2) (c .extremes-low .ensures .answer) in
     printed (Asks-extremes L (c .args .state) k L) (c .args .line .now) (extremes-line low high) (c .write-extremes .result) (c .write-extremes .last .line)
     (told L (c .args .state) k kind (c .in-Continue-kind .ensures tt) low high (state .0) (state .1) found)
     (subst (λ text. Wrote text (c .args .line .now) (c .write-extremes .result) (c .write-extremes .last .line)) (λ i. extremes-line (toZ-ofZ f i) (toZ-ofZ g i)) (c .write-extremes .ensures))

@@ -1,7 +1,7 @@
 -- `record::stepping::step` meets its contract.
 use mathlib.Core.Path.{subst}
 use Rattle.sheet.specs.Ledger.{ledger}
-use Rattle.record.specs.Runs.{Reported}
+use Rattle.record.specs.Runs.{Delivers}
 use Rattle.record.specs.Steps.{Advances}
 use Rattle.record.proofs.StepTests.{too-long, short-buffer, wrote-line, wrote-fault}
 use Rattle.record.proofs.stepping.step.Needs as need
@@ -18,7 +18,7 @@ returns-in-Ok c =
     let L = ledger (c .args .sheet .now) in
     let M = ledger (c .advance-next .last .sheet) in
     let next = c .advance-next .result .0 in
-    let told = subst (λ r. Reported (Advances L (c .args .bytes .now) (c .args .place) M next) (c .args .line .now) r (c .advance-next .last .line)) (c .in-Ok .is) (c .advance-next .ensures) in
+    let told = subst (λ r. Delivers (Advances L (c .args .bytes .now) (c .args .place) M next) (c .args .line .now) r (c .advance-next .last .line)) (c .in-Ok .is) (c .advance-next .ensures) in
     wrote-line L (c .args .bytes .now) (c .args .place) (c .args .line .now) (c .if-bytes-gt65536 .left) (c .if-line-lt64 .left) M next (c .in-Ok .written) (c .advance-next .last .line) told
 
 pub returns-in-Err : need.returns-in-Err
@@ -26,6 +26,6 @@ returns-in-Err c =
     let L = ledger (c .args .sheet .now) in
     let M = ledger (c .advance-next .last .sheet) in
     let next = c .advance-next .result .0 in
-    let told = subst (λ r. Reported (Advances L (c .args .bytes .now) (c .args .place) M next) (c .args .line .now) r (c .advance-next .last .line)) (c .in-Err .is) (c .advance-next .ensures) in
+    let told = subst (λ r. Delivers (Advances L (c .args .bytes .now) (c .args .place) M next) (c .args .line .now) r (c .advance-next .last .line)) (c .in-Err .is) (c .advance-next .ensures) in
     wrote-fault L (c .args .bytes .now) (c .args .place) (c .args .line .now) (c .if-bytes-gt65536 .left) (c .if-line-lt64 .left) M next (c .in-Err .fault) (c .advance-next .last .line)
     (c .write-fault-written .result) (c .write-fault-written .last .line) told (c .write-fault-written .ensures)

@@ -19,6 +19,6 @@ returns-else-exceeds c =
     let f : SFits w64 high = search needs in (
       c .if-not-self .left,
       c .if-not-self-2 .left,
-      none-above (c .args .state .now .factors) Moment (c .args .sheet .now .rows .slots) (c .extremes-high .result .0) high (100 * mn) 750 (c .extremes-high .ensures)
+      none-above (c .args .state .now .factors) Moment (c .args .sheet .now .rows .slots) (c .extremes-high .result .0) high (100 * mn) 750 (c .extremes-high .ensures .answer)
           (sym (c .if-exceeds .ensures tt ∙ ap (λ (z : ℤ). ltZ (pos (100 * mn)) (times 750 z)) (toZ-ofZ f))),
     )
