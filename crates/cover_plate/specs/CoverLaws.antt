@@ -9,12 +9,12 @@ use Rattle.cover_plate.specs.declared.cover.CoverPlate.{CoverPlate}
 use Rattle.cover_plate.specs.Covers.{cover-strips}
 
 ends : (p : CoverPlate) (i : ℕ) → 4096 ≤ i → cover-strips p i ≡ 0
-ends p i l = let h = p .inside in block-past (p .top) (p .height) (p .breadth * p .«yield_strength») i (omega arith)
+ends p i l = let h = p .inside in block-past (p .top) (p .height) (p .breadth * p .fy) i (omega arith)
 
 light : (p : CoverPlate) → sumTo (cover-strips p) 4096 ≤ 2 ^ 36
 light p =
     let h = p .light in
-    let s = block-sum (p .top) (p .height) (p .breadth * p .«yield_strength») 4096 (p .inside) in
+    let s = block-sum (p .top) (p .height) (p .breadth * p .fy) 4096 (p .inside) in
     omega arith
 
 pub cover-laws : Lawful cover-strips cover-strips

@@ -7,7 +7,7 @@ use Rattle.section.specs.Blocks.{blockStrip}
 use Rattle.cover_plate.specs.declared.cover.CoverPlate.{CoverPlate}
 
 abbrev pub cover-strips : CoverPlate → ℕ → ℕ
-cover-strips p = blockStrip (p .top) (p .height) (p .breadth * p .«yield_strength»)
+cover-strips p = blockStrip (p .top) (p .height) (p .breadth * p .fy)
 
 -- the limits of a cover plate
 pub record CoverFits (top breadth height yield : ℕ) : Type 0 where
@@ -21,5 +21,5 @@ pub record CoverFits (top breadth height yield : ℕ) : Type 0 where
 
 -- the plate of these measures, just where they fit
 abbrev pub CoverMade : ℕ → ℕ → ℕ → ℕ → Option CoverPlate → Type 0
-CoverMade top breadth height yield (Some p) = CoverFits top breadth height yield × (p .top ≡ top) × (p .breadth ≡ breadth) × (p .height ≡ height) × (p .«yield_strength» ≡ yield)
+CoverMade top breadth height yield (Some p) = CoverFits top breadth height yield × (p .top ≡ top) × (p .breadth ≡ breadth) × (p .height ≡ height) × (p .fy ≡ yield)
 CoverMade top breadth height yield None = CoverFits top breadth height yield → ⊥

@@ -16,8 +16,8 @@ use section::Sense;
 impl CoverPlate {
     // The plate of these measures; none where one is outside its limits, or the plate yields at
     // more than 2^36.
-    pub fn new(top: u16, breadth: u16, height: u16, yield_strength: u32) -> Option<CoverPlate>
-        ensures { λ r. ⌜ CoverMade top breadth height «yield_strength» r ⌝ }
+    pub fn new(top: u16, breadth: u16, height: u16, fy: u32) -> Option<CoverPlate>
+        ensures { λ r. ⌜ CoverMade top breadth height fy r ⌝ }
     {
         if breadth < 1 || breadth > 4096 || height < 1 {
             return None;
@@ -25,17 +25,17 @@ impl CoverPlate {
         if height > LOWEST || top > LOWEST - height {
             return None;
         }
-        if yield_strength < LEAST_YIELD || yield_strength > GREATEST_YIELD {
+        if fy < LEAST_YIELD || fy > GREATEST_YIELD {
             return None;
         }
-        if breadth as u64 * height as u64 * yield_strength as u64 > STRONGEST {
+        if breadth as u64 * height as u64 * fy as u64 > STRONGEST {
             return None;
         }
         Some(CoverPlate {
             top,
             breadth,
             height,
-            yield_strength,
+            fy,
         })
     }
 
@@ -43,13 +43,9 @@ impl CoverPlate {
     fn block(&self) -> Block
         ensures top { λ r. ⌜ r .top ≡ now (self .entry) .top ⌝ }
         ensures height { λ r. ⌜ r .height ≡ now (self .entry) .height ⌝ }
-        ensures strength { λ r. ⌜ r .strength ≡ now (self .entry) .breadth * now (self .entry) .«yield_strength» ⌝ }
+        ensures strength { λ r. ⌜ r .strength ≡ now (self .entry) .breadth * now (self .entry) .fy ⌝ }
     {
-        match Block::new(
-            self.top,
-            self.height,
-            self.breadth as u64 * self.yield_strength as u64,
-        ) {
+        match Block::new(self.top, self.height, self.breadth as u64 * self.fy as u64) {
             Some(block) => block,
             None => unreachable(),
         }
