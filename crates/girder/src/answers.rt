@@ -48,7 +48,7 @@ pub(crate) fn print_head(rt: &LibcRuntime) -> io::Result<()> {
     let breadth = Inches(SLAB.breadth);
     let height = Inches(SLAB.height);
     let top = Inches(SLAB.top);
-    let strength = SLAB.strength;
+    let strength = SLAB.fc;
     println!(
         rt,
         "Deck: slab {breadth} by {height} in at {top} in, f'c {strength} psi, no bars"

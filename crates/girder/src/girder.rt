@@ -28,7 +28,7 @@ pub(crate) const SLAB: Slab = Slab {
     top: 0,
     breadth: 1536,
     height: 128,
-    strength: 4000,
+    fc: 4000,
 };
 
 // Right below the bottom flange.
