@@ -43,8 +43,8 @@ some-in Hogging f t h some n = let m = some-moment f t (n .level) some h in omeg
 steel : (p : CoverPlate) → 1 ≤ cover-strips p (p .top)
 steel p =
     let h = p .some in
-    let m = mul-le 1 30000 (p .breadth) (p .«yield_strength») (p .narrowest) (p .weakest) in
-    let w = block-within (p .top) (p .height) (p .breadth * p .«yield_strength») (p .top) (omega arith) (omega arith) in
+    let m = mul-le 1 30000 (p .breadth) (p .fy) (p .narrowest) (p .weakest) in
+    let w = block-within (p .top) (p .height) (p .breadth * p .fy) (p .top) (omega arith) (omega arith) in
     omega arith
 
 pub pair-steel : (sense : Sense) (p q : CoverPlate) → LacksMoment sense (cover-strips p ⊕ cover-strips q) (cover-strips p ⊕ cover-strips q) → ⊥
