@@ -48,6 +48,20 @@ fn a_command_is_cut_short(rt: LibcRuntime) -> Result<(), Fail> {
 }
 
 #[test]
+fn a_girder_in_bending_and_shear(rt: LibcRuntime) -> Result<(), Fail> {
+    let flanges_and_web =
+        b"\x01\x00\x01\x00\x80\x00\xc0\x00\x10\x00\x00\xc3\x50\x01\x01\x02\x00\x90\x00\x08\x02\x80\x00\x00\xc3\x50\x01\x02\x03\x03\x10\x01\x00\x00\x18\x00\x00\xc3\x50";
+    let questions = b"\x07\x01\x00\x00\x06\x00\x00\x80\x0f\xa0\x08\x01\x00\x00\x08\x01\x03\xc0";
+    let mut bytes = Vec::new(rt.alloc());
+    bytes.extend_from_slice(flanges_and_web)?;
+    bytes.extend_from_slice(questions)?;
+    let lines = transcript(rt.alloc(), bytes.as_slice())?;
+    let expected =
+        b"7 level 131 moment 81830493 mn 78271676 verdict 0\n8 shear 105629600 verdict 0\n8 shear 134517438 verdict 0\n";
+    check_eq(lines.as_slice(), expected)
+}
+
+#[test]
 fn a_place_past_the_end() -> Result<(), Fail> {
     let mut sheet = Sheet::new();
     let mut line = [b'.'; 64];
