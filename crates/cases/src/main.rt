@@ -1,4 +1,6 @@
 //! Makes the calls that standard input lists, each with the reply that is expected of it, and counts how many replies agree.
+#![tactic(auto)]
+
 mod answers;
 mod calls;
 mod case;

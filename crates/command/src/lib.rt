@@ -1,4 +1,6 @@
 //! Commands as bytes: the first byte names the command, its operands follow, big end first.
+#![tactic(auto)]
+
 mod commands;
 mod reading;
 

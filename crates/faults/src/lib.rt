@@ -1,4 +1,6 @@
 //! Every refusal: its number, the layer it arose in, the slot of the refused call, and the place of its command.
+#![tactic(auto)]
+
 mod layer;
 mod part;
 mod place;

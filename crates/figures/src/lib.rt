@@ -1,5 +1,7 @@
 //! Worked figures, each as a theorem on the definitions that the contracts cite: the function
 //! that carries it does nothing.
+#![tactic(auto)]
+
 mod axes;
 mod bending_of;
 mod girders;

@@ -1,4 +1,6 @@
 //! Works one girder from the empty sheet through all questions, and prints what was done and what came out.
+#![tactic(auto)]
+
 mod answers;
 mod girder;
 mod refusal;

@@ -1,4 +1,6 @@
 //! Kinds of parts: a deck, the same deck cracked, a shape, and either of two kinds.
+#![tactic(auto)]
+
 mod bar_layer;
 mod cracked;
 mod deck;

@@ -1,4 +1,6 @@
 //! Load effects and their exact values, load types, and limit states with their load factors.
+#![tactic(auto)]
+
 mod effect;
 mod kind;
 mod limit_state;

@@ -1,4 +1,6 @@
 //! The C interface: a record's transcript into a buffer of the caller's, with no heap.
+#![tactic(auto)]
+
 mod filling;
 mod interface;
 #[cfg(test)]

@@ -1,4 +1,6 @@
 //! Questions asked of a sheet.
+#![tactic(auto)]
+
 mod answers;
 mod axis_of;
 mod bending_of;

@@ -1,4 +1,6 @@
 //! Reads a section record from standard input, and prints the lines of its steps.
+#![tactic(auto)]
+
 use std::io;
 use std::io::{Read, Write};
 

@@ -1,4 +1,6 @@
 //! The section record: one step runs one command, and a transcript has the lines of all.
+#![tactic(auto)]
+
 mod codes;
 mod line_writer;
 mod lines;

@@ -1,4 +1,6 @@
 //! Any list of calls on a new sheet, with the law that holds of every such run.
+#![tactic(auto)]
+
 mod call;
 mod replays;
 mod reply;

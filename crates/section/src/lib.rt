@@ -1,4 +1,6 @@
 //! The strips of a section's parts, the forces and the plastic moment that they give at a level, and the plastic neutral axis of two parts together.
+#![tactic(auto)]
+
 mod axis;
 mod block;
 mod blocks;

@@ -1,4 +1,6 @@
 //! A sheet: what stands in the slots of one section, the changes to it, and their refusals.
+#![tactic(auto)]
+
 mod changes;
 mod held;
 mod measures;

@@ -13,4 +13,4 @@ found : Opposed
 found = extremes_from strength_i Moment opposed.rows (neg_ℤ (pos 120000)) (neg_ℤ (pos 86400)) (published_lawful 0) refl refl
 
 pub returns : goal.returns
-returns c = record { extremes = found; one-factor = λ choice chosen e. let b = found.between choice chosen in omega (arith, ints) }
+returns c = record { extremes = found; one_factor = λ choice chosen e. let b = found.between choice chosen in omega (arith, ints) }

@@ -10,14 +10,14 @@ loop-place-init c = going_none c.args.bytes.now c.args.out.now (ledger c.new-she
 
 pub loop-place-smaller : goal.loop-place-smaller
 loop-place-smaller c =
-    let a = c.step-more-next.ensures in
-    let g = forward (ledger c.loop-place.sheet) c.args.bytes.now c.loop-place.place _ c.step-more-next.result.0 a.outcome c.loop-place-test.true a.advances in
+    let a = c.step_more-next.ensures in
+    let g = forward (ledger c.loop-place.sheet) c.args.bytes.now c.loop-place.place _ c.step_more-next.result.0 a.outcome c.loop-place-test.true a.advances in
     omega arith
 
 pub loop-place-preserved : goal.loop-place-preserved
 loop-place-preserved c =
     going_more c.args.bytes.now c.args.out.now (ledger c.loop-place.sheet) c.loop-place.place c.loop-place.n c.loop-place.out c.loop-place.invariant
-    c.loop-place-test.true (search rules) (ledger c.step-more-next.new.sheet) c.step-more-next.result c.step-more-next.new.out c.step-more-next.ensures
+    c.loop-place-test.true (search rules) (ledger c.step_more-next.new.sheet) c.step_more-next.result c.step_more-next.new.out c.step_more-next.ensures
 
 pub returns : goal.returns
 returns c =

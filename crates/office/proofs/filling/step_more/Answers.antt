@@ -4,16 +4,16 @@ use Rattle.record.proofs.Following.{taken, fits}
 use Rattle.office.proofs.Laying.{adds}
 use Rattle.office.proofs.filling.step_more.Goals as goal
 
-pub slice-bounds-put-end : goal.slice-bounds-put-end
-slice-bounds-put-end c = let t = taken c.requires.few (search rules) c.step-stepped.ensures in search (rules, fits t.wrote)
+pub slice_bounds-put-end : goal.slice_bounds-put-end
+slice_bounds-put-end c = let t = taken c.requires.few (search rules) c.step-stepped.ensures in search (rules, fits t.wrote)
 
 pub put-requires : goal.put-requires
 put-requires c =
     let e : length c.step-stepped.new.line ≡ 64 = search rules in
     omega (arith, length-take (c.step-stepped.result.written - 0) c.step-stepped.new.line)
 
-pub overflow-add-result : goal.overflow-add-result
-overflow-add-result c =
+pub overflow_add-result : goal.overflow_add-result
+overflow_add-result c =
     let t = taken c.requires.few (search rules) c.step-stepped.ensures in
     let e : length c.step-stepped.new.line ≡ 64 = search rules in
     let f : c.step-stepped.result.written ≤ length c.step-stepped.new.line = fits t.wrote e in

@@ -8,5 +8,5 @@ pub returns : goal.returns
 returns g c =
     let L = ledger c.args.sheet.now in
     let x = c.args.part.now in
-    let r = c.plastic-axis.ensures in
-    record { answer = r; only = λ y h. answer_unique c.args.sense (with_plates L (g.P.Part.pushes x)) (with_plates L (g.P.Part.pulls x)) y c.plastic-axis.result h r }
+    let r = c.plastic_axis.ensures in
+    record { answer = r; only = λ y h. answer_unique c.args.sense (with_plates L (g.P.Part.pushes x)) (with_plates L (g.P.Part.pulls x)) y c.plastic_axis.result h r }

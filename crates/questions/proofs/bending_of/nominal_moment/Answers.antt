@@ -6,5 +6,5 @@ use Rattle.questions.proofs.bending_of.nominal_moment.Goals as goal
 pub returns : goal.returns
 returns c = record {
   value = search rules;
-  bound = nominal_le c.args.mp c.saturating-sub.result c.from-dt.result _ (omega arith) (omega arith) refl;
+  bound = nominal_le c.args.mp c.saturating_sub.result c.from-dt.result _ (omega arith) (omega arith) refl;
 }

@@ -15,40 +15,40 @@ passed z h = subst (λ (x : ℤ). nat_abs x ≤ 2 ^ 37) (sym (sum_bits z h)) h
 handed : (z : ℤ) → Small z → Small (bits z)
 handed z h = subst Small (sym (small_bits z h)) h
 
-pub type-extremes-dc-requires : goal.type-extremes-dc-requires
-type-extremes-dc-requires c = passed (get_or c.type-sums.result 0 (pos 0)) (c.type-sums.ensures.bound Dc)
+pub type_extremes-dc-requires : goal.type_extremes-dc-requires
+type_extremes-dc-requires c = passed (get_or c.type_sums.result 0 (pos 0)) (c.type_sums.ensures.bound Dc)
 
-pub type-extremes-dw-requires : goal.type-extremes-dw-requires
-type-extremes-dw-requires c = passed (get_or c.type-sums.result 1 (pos 0)) (c.type-sums.ensures.bound Dw)
+pub type_extremes-dw-requires : goal.type_extremes-dw-requires
+type_extremes-dw-requires c = passed (get_or c.type_sums.result 1 (pos 0)) (c.type_sums.ensures.bound Dw)
 
-pub type-extremes-ll-requires : goal.type-extremes-ll-requires
-type-extremes-ll-requires c = passed (get_or c.type-sums.result 2 (pos 0)) (c.type-sums.ensures.bound Ll)
+pub type_extremes-ll-requires : goal.type_extremes-ll-requires
+type_extremes-ll-requires c = passed (get_or c.type_sums.result 2 (pos 0)) (c.type_sums.ensures.bound Ll)
 
-pub type-extremes-ws-requires : goal.type-extremes-ws-requires
-type-extremes-ws-requires c = passed (get_or c.type-sums.result 3 (pos 0)) (c.type-sums.ensures.bound Ws)
+pub type_extremes-ws-requires : goal.type_extremes-ws-requires
+type_extremes-ws-requires c = passed (get_or c.type_sums.result 3 (pos 0)) (c.type_sums.ensures.bound Ws)
 
-pub sum-of-requires : goal.sum-of-requires
-sum-of-requires c =
-    (handed c.type-extremes-dc.result.0 c.type-extremes-dc.ensures.small.0, (handed c.type-extremes-dw.result.0 c.type-extremes-dw.ensures.small.0, (handed c.type-extremes-ll.result.0 c.type-extremes-ll.ensures.small.0, (handed c.type-extremes-ws.result.0 c.type-extremes-ws.ensures.small.0))))
+pub sum_of-requires : goal.sum_of-requires
+sum_of-requires c =
+    (handed c.type_extremes-dc.result.0 c.type_extremes-dc.ensures.small.0, (handed c.type_extremes-dw.result.0 c.type_extremes-dw.ensures.small.0, (handed c.type_extremes-ll.result.0 c.type_extremes-ll.ensures.small.0, (handed c.type_extremes-ws.result.0 c.type_extremes-ws.ensures.small.0))))
 
-pub sum-of-requires-2 : goal.sum-of-requires-2
-sum-of-requires-2 c =
-    (handed c.type-extremes-dc.result.1 c.type-extremes-dc.ensures.small.1, (handed c.type-extremes-dw.result.1 c.type-extremes-dw.ensures.small.1, (handed c.type-extremes-ll.result.1 c.type-extremes-ll.ensures.small.1, (handed c.type-extremes-ws.result.1 c.type-extremes-ws.ensures.small.1))))
+pub sum_of-requires-2 : goal.sum_of-requires-2
+sum_of-requires-2 c =
+    (handed c.type_extremes-dc.result.1 c.type_extremes-dc.ensures.small.1, (handed c.type_extremes-dw.result.1 c.type_extremes-dw.ensures.small.1, (handed c.type_extremes-ll.result.1 c.type_extremes-ll.ensures.small.1, (handed c.type_extremes-ws.result.1 c.type_extremes-ws.ensures.small.1))))
 
 pub returns : goal.returns
 returns c =
     let fs = c.args.state.now.factors in
     let k = c.args.kind in
     let rows = c.args.sheet.now.rows.slots in
-    let sums = c.type-sums.result in
-    let sum : (t : LoadType) → bits (get_or sums (index t) (pos 0)) ≡ type_sum t k rows = λ t. sum_bits (get_or sums (index t) (pos 0)) (c.type-sums.ensures.bound t) ∙ c.type-sums.ensures.value t in
+    let sums = c.type_sums.result in
+    let sum : (t : LoadType) → bits (get_or sums (index t) (pos 0)) ≡ type_sum t k rows = λ t. sum_bits (get_or sums (index t) (pos 0)) (c.type_sums.ensures.bound t) ∙ c.type_sums.ensures.value t in
     let lows =
-    total_is c.type-extremes-dc.result.0 c.type-extremes-dw.result.0 c.type-extremes-ll.result.0 c.type-extremes-ws.result.0
-    c.type-extremes-dc.ensures.small.0 c.type-extremes-dw.ensures.small.0 c.type-extremes-ll.ensures.small.0 c.type-extremes-ws.ensures.small.0 c.sum-of.result c.sum-of.ensures in
+    total_is c.type_extremes-dc.result.0 c.type_extremes-dw.result.0 c.type_extremes-ll.result.0 c.type_extremes-ws.result.0
+    c.type_extremes-dc.ensures.small.0 c.type_extremes-dw.ensures.small.0 c.type_extremes-ll.ensures.small.0 c.type_extremes-ws.ensures.small.0 c.sum_of.result c.sum_of.ensures in
     let highs =
-    total_is c.type-extremes-dc.result.1 c.type-extremes-dw.result.1 c.type-extremes-ll.result.1 c.type-extremes-ws.result.1
-    c.type-extremes-dc.ensures.small.1 c.type-extremes-dw.ensures.small.1 c.type-extremes-ll.ensures.small.1 c.type-extremes-ws.ensures.small.1 c.sum-of-2.result c.sum-of-2.ensures in
+    total_is c.type_extremes-dc.result.1 c.type_extremes-dw.result.1 c.type_extremes-ll.result.1 c.type_extremes-ws.result.1
+    c.type_extremes-dc.ensures.small.1 c.type_extremes-dw.ensures.small.1 c.type_extremes-ll.ensures.small.1 c.type_extremes-ws.ensures.small.1 c.sum_of-2.result c.sum_of-2.ensures in
     let found = extremes_from fs k rows _ _ c.args.state.now.lawful
-    (lows ∙ (λ i. (c.type-extremes-dc.ensures.low ∙ ap (least (range fs Dc)) (sum Dc)) i +ℤ (c.type-extremes-dw.ensures.low ∙ ap (least (range fs Dw)) (sum Dw)) i +ℤ (c.type-extremes-ll.ensures.low ∙ ap (least (range fs Ll)) (sum Ll)) i +ℤ (c.type-extremes-ws.ensures.low ∙ ap (least (range fs Ws)) (sum Ws)) i))
-    (highs ∙ (λ i. (c.type-extremes-dc.ensures.high ∙ ap (greatest (range fs Dc)) (sum Dc)) i +ℤ (c.type-extremes-dw.ensures.high ∙ ap (greatest (range fs Dw)) (sum Dw)) i +ℤ (c.type-extremes-ll.ensures.high ∙ ap (greatest (range fs Ll)) (sum Ll)) i +ℤ (c.type-extremes-ws.ensures.high ∙ ap (greatest (range fs Ws)) (sum Ws)) i)) in
+    (lows ∙ (λ i. (c.type_extremes-dc.ensures.low ∙ ap (least (range fs Dc)) (sum Dc)) i +ℤ (c.type_extremes-dw.ensures.low ∙ ap (least (range fs Dw)) (sum Dw)) i +ℤ (c.type_extremes-ll.ensures.low ∙ ap (least (range fs Ll)) (sum Ll)) i +ℤ (c.type_extremes-ws.ensures.low ∙ ap (least (range fs Ws)) (sum Ws)) i))
+    (highs ∙ (λ i. (c.type_extremes-dc.ensures.high ∙ ap (greatest (range fs Dc)) (sum Dc)) i +ℤ (c.type_extremes-dw.ensures.high ∙ ap (greatest (range fs Dw)) (sum Dw)) i +ℤ (c.type_extremes-ll.ensures.high ∙ ap (greatest (range fs Ll)) (sum Ll)) i +ℤ (c.type_extremes-ws.ensures.high ∙ ap (greatest (range fs Ws)) (sum Ws)) i)) in
     record { answer = found; only = λ l h x. extremes_only fs k rows _ _ l h found x }

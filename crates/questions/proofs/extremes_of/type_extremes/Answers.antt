@@ -10,13 +10,13 @@ use Rattle.questions.proofs.extremes_of.type_extremes.Goals as goal
 lawful : (c : goal.After-factors-low) → Range c.factors-low.result
 lawful c = subst Range (sym c.factors-low.ensures) (c.args.state.now.lawful c.args.load)
 
-pub overflow-mul-at-low : goal.overflow-mul-at-low
-overflow-mul-at-low c =
+pub overflow_mul-at_low : goal.overflow_mul-at_low
+overflow_mul-at_low c =
     let h = at_most c.factors-low.result (lawful c) in
     simp (factor c.factors-low.result.0 h.0, to_z-of_z c.ranges.sum) (product_fits c.factors-low.result.0 c.args.sum h.0 c.requires)
 
-pub overflow-mul-at-high : goal.overflow-mul-at-high
-overflow-mul-at-high c =
+pub overflow_mul-at_high : goal.overflow_mul-at_high
+overflow_mul-at_high c =
     let h = at_most c.factors-low.result (lawful c) in
     simp (factor c.factors-low.result.1 h.1, to_z-of_z c.ranges.sum) (product_fits c.factors-low.result.1 c.args.sum h.1 c.requires)
 

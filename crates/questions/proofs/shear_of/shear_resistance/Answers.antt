@@ -9,11 +9,11 @@ use Rattle.questions.proofs.shear_of.shear_resistance.Goals as goal
 pub buckling-requires : goal.buckling-requires
 buckling-requires c =
     let s = c.args.sheet.now in
-    let e : standing Web s.plates.slots ≡ Some c.in-ok-web.web = sym c.with-role.ensures ∙ c.in-ok-web.ensures.ok-part in
-    (web_fits s.plates.slots s.within c.in-ok-web.web e).some
+    let e : standing Web s.plates.slots ≡ Some c.in_ok-web.web = sym c.with_role.ensures ∙ c.in_ok-web.ensures.ok-part in
+    (web_fits s.plates.slots s.within c.in_ok-web.web e).some
 
-pub web-resistance-requires : goal.web-resistance-requires
-web-resistance-requires c =
+pub web_resistance-requires : goal.web_resistance-requires
+web_resistance-requires c =
     let s = c.args.sheet.now in
-    let e : standing Web s.plates.slots ≡ Some c.in-ok-web.web = sym c.with-role.ensures ∙ c.in-ok-web.ensures.ok-part in
-    record { fits = web_fits s.plates.slots s.within c.in-ok-web.web e; small = c.in-ok-k.ensures.1 }
+    let e : standing Web s.plates.slots ≡ Some c.in_ok-web.web = sym c.with_role.ensures ∙ c.in_ok-web.ensures.ok-part in
+    record { fits = web_fits s.plates.slots s.within c.in_ok-web.web e; small = c.in_ok-k.ensures.1 }

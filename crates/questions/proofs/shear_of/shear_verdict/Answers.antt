@@ -10,7 +10,7 @@ returns-then-from c =
     let high = c.extremes-low.result.1 in
     let f : SFits w64 low = search rules in
     let g : SFits w64 high = search rules in
-    let m : c.from.result ≡ max (nat_abs low) (nat_abs high) = c.from.ensures ∙ c.max-largest.ensures ∙ (λ i. max ((c.unsigned-abs.ensures.value ∙ ap nat_abs (to_z-of_z f)) i) ((c.unsigned-abs-2.ensures.value ∙ ap nat_abs (to_z-of_z g)) i)) in
+    let m : c.from.result ≡ max (nat_abs low) (nat_abs high) = c.from.ensures ∙ c.max-largest.ensures ∙ (λ i. max ((c.unsigned_abs.ensures.value ∙ ap nat_abs (to_z-of_z f)) i) ((c.unsigned_abs-2.ensures.value ∙ ap nat_abs (to_z-of_z g)) i)) in
     some_larger c.args.state.now.factors Shear c.args.sheet.now.rows.slots low high c.extremes-low.ensures.answer (100 * c.args.resistance) (omega (arith, c.if-from.true, c.from-2.ensures))
 
 pub returns-else-from : goal.returns-else-from
@@ -19,5 +19,5 @@ returns-else-from c =
     let high = c.extremes-low.result.1 in
     let f : SFits w64 low = search rules in
     let g : SFits w64 high = search rules in
-    let m : c.from.result ≡ max (nat_abs low) (nat_abs high) = c.from.ensures ∙ c.max-largest.ensures ∙ (λ i. max ((c.unsigned-abs.ensures.value ∙ ap nat_abs (to_z-of_z f)) i) ((c.unsigned-abs-2.ensures.value ∙ ap nat_abs (to_z-of_z g)) i)) in
+    let m : c.from.result ≡ max (nat_abs low) (nat_abs high) = c.from.ensures ∙ c.max-largest.ensures ∙ (λ i. max ((c.unsigned_abs.ensures.value ∙ ap nat_abs (to_z-of_z f)) i) ((c.unsigned_abs-2.ensures.value ∙ ap nat_abs (to_z-of_z g)) i)) in
     none_larger c.args.state.now.factors Shear c.args.sheet.now.rows.slots low high c.extremes-low.ensures.answer (100 * c.args.resistance) (omega (arith, c.if-from.false, c.from-2.ensures))

@@ -18,4 +18,4 @@ returns g c =
     let push = c.resultants-push.ensures.above_is ∙ all_above (g.P.Part.pushes c.args.part.now) in
     let pull = c.resultants-pull.ensures.below_is ∙ all_below (plate_strips c.args.sheet.now.plates.slots) in
     let p : c.min.result ≡ interface_force (ledger c.args.sheet.now) (g.P.Part.pushes c.args.part.now) = c.min.ensures ∙ (λ i. min (push i) (pull i)) in
-    (c.if-not-is-lawful.ensures, c.force-force.ensures.force, subst (λ (x : ℕ). IsCount c.force-force.result x c.count.result) p c.count.ensures)
+    (c.if-not-is_lawful.ensures, c.force-force.ensures.force, subst (λ (x : ℕ). IsCount c.force-force.result x c.count.result) p c.count.ensures)

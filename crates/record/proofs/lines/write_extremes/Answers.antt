@@ -5,5 +5,5 @@ use Rattle.record.proofs.lines.write_extremes.Goals as goal
 
 pub returns : goal.returns
 returns c =
-    let w = then c.put.ensures.adds (then (adds-signed c.ranges.low c.put-signed.ensures.adds) (then c.put-2.ensures.adds (then (adds-signed c.ranges.high c.put-signed-2.ensures.adds) c.put-3.ensures.adds))) in
+    let w = then c.put.ensures.adds (then (adds-signed c.ranges.low c.put_signed.ensures.adds) (then c.put-2.ensures.adds (then (adds-signed c.ranges.high c.put_signed-2.ensures.adds) c.put-3.ensures.adds))) in
     record { len = c.len.ensures ∙ ends c.new-writer.ensures.len w; after = search (rules, whole c.new-writer.ensures.len w) }

@@ -17,45 +17,45 @@ use Rattle.record.proofs.running.run_bending.Goals as goal
 of_slab : (s : Slab) (d : Deck) → Holds s [] d → (P : (ℕ → ℕ) → (ℕ → ℕ) → Type 0) → P (pushes_of d) (bars_of d) → P (slab_pushes s) slab_pulls
 of_slab s d h P x = subst (λ f. P f slab_pulls) h.pushes_are (subst (P (pushes_of d)) h.pulls_are x)
 
-pub returns-in-err-fill : goal.returns-in-err-fill
-returns-in-err-fill c =
+pub returns-in_err-fill : goal.returns-in_err-fill
+returns-in_err-fill c =
     let L = ledger c.args.sheet.now in
-    let f = c.in-err-fill.field-0.0 in
-    let was = c.in-err-fill.ensures in
+    let f = c.in_err-fill.field-0.0 in
+    let was = c.in_err-fill.ensures in
     faulted (TellsBending L c.args.state c.args.slab L) c.args.line.now c.from-residual.result (Part f) (wrapped Part f c.from-residual.result c.from-residual.ensures.1)
     (was.0, was.1, refl)
 
-pub returns-in-err-found : goal.returns-in-err-found
-returns-in-err-found c =
+pub returns-in_err-found : goal.returns-in_err-found
+returns-in_err-found c =
     let L = ledger c.args.sheet.now in
     let s = c.args.slab in
-    let f = c.in-err-found.field-0.0 in
-    let r = c.from-residual-in-err-found.result in
-    let held = c.in-ok-fill.ensures in
-    faulted (TellsBending L c.args.state s L) c.args.line.now r (Question f) (wrapped Question f r c.from-residual-in-err-found.ensures.1)
-    (bending_refused L c.args.state s held.0 f (of_slab s c.fill.new.self held.1 (λ p q. RefusesBending L p q f) c.in-err-found.ensures.answer))
+    let f = c.in_err-found.field-0.0 in
+    let r = c.from-residual-in_err-found.result in
+    let held = c.in_ok-fill.ensures in
+    faulted (TellsBending L c.args.state s L) c.args.line.now r (Question f) (wrapped Question f r c.from-residual-in_err-found.ensures.1)
+    (bending_refused L c.args.state s held.0 f (of_slab s c.fill.new.self held.1 (λ p q. RefusesBending L p q f) c.in_err-found.ensures.answer))
 
-pub returns-in-err-state : goal.returns-in-err-state
-returns-in-err-state c =
+pub returns-in_err-state : goal.returns-in_err-state
+returns-in_err-state c =
     let L = ledger c.args.sheet.now in
     let s = c.args.slab in
-    let f = c.in-err-state.field-0.0 in
-    let r = c.from-residual-in-err-state.result in
-    let was = c.in-err-state.ensures in
-    let held = c.in-ok-fill.ensures in
-    let found = c.in-ok-found.found in
-    faulted (TellsBending L c.args.state s L) c.args.line.now r (Question UnknownState) (wrapped Question f r c.from-residual-in-err-state.ensures.1 ∙ ap (λ q. Err (Question q)) was.0)
-    (held.0, (was.1, (found, of_slab s c.fill.new.self held.1 (λ p q. IsResistance L p q found) c.in-ok-found.ensures.answer)), refl)
+    let f = c.in_err-state.field-0.0 in
+    let r = c.from-residual-in_err-state.result in
+    let was = c.in_err-state.ensures in
+    let held = c.in_ok-fill.ensures in
+    let found = c.in_ok-found.found in
+    faulted (TellsBending L c.args.state s L) c.args.line.now r (Question UnknownState) (wrapped Question f r c.from-residual-in_err-state.ensures.1 ∙ ap (λ q. Err (Question q)) was.0)
+    (held.0, (was.1, (found, of_slab s c.fill.new.self held.1 (λ p q. IsResistance L p q found) c.in_ok-found.ensures.answer)), refl)
 
 pub returns : goal.returns
 returns c =
     let L = ledger c.args.sheet.now in
     let s = c.args.slab in
-    let held = c.in-ok-fill.ensures in
-    let state = c.in-ok-state.ensures in
-    let found = c.in-ok-found.found in
+    let held = c.in_ok-fill.ensures in
+    let state = c.in_ok-state.ensures in
+    let found = c.in_ok-found.found in
     let v = c.verdict-verdict.result in
-    let is = of_slab s c.fill.new.self held.1 (λ p q. IsResistance L p q found) c.in-ok-found.ensures.answer in
+    let is = of_slab s c.fill.new.self held.1 (λ p q. IsResistance L p q found) c.in_ok-found.ensures.answer in
     let judged = subst (λ fs. Judges fs L.rows found v) state.2 c.verdict-verdict.ensures in
-    printed (TellsBending L c.args.state s L) c.args.line.now (bending_line found.level found.mp found.mn (verdict_number v)) c.write-bending.result c.write-bending.new.line
-    (held.0, state.0, state.1, refl, (found, v, is, judged, refl)) c.write-bending.ensures
+    printed (TellsBending L c.args.state s L) c.args.line.now (bending_line found.level found.mp found.mn (verdict_number v)) c.write_bending.result c.write_bending.new.line
+    (held.0, state.0, state.1, refl, (found, v, is, judged, refl)) c.write_bending.ensures

@@ -10,23 +10,23 @@ use Rattle.record.specs.Runs.{AsksExtremes}
 use Rattle.record.proofs.Outcomes.{wrapped, faulted, printed, at_code, at-state, told}
 use Rattle.record.proofs.running.run_extremes.Goals as goal
 
-pub returns-in-err-kind : goal.returns-in-err-kind
-returns-in-err-kind c =
+pub returns-in_err-kind : goal.returns-in_err-kind
+returns-in_err-kind c =
     let L = ledger c.args.sheet.now in
     let k = effect_kind c.args.effect in
-    let f = c.in-err-kind.field-0.0 in
+    let f = c.in_err-kind.field-0.0 in
     faulted (AsksExtremes L c.args.state k L) c.args.line.now c.from-residual.result (Reading f) (wrapped Reading f c.from-residual.result c.from-residual.ensures.1)
-    (at_code L c.args.state k f c.in-err-kind.ensures)
+    (at_code L c.args.state k f c.in_err-kind.ensures)
 
-pub returns-in-err-state : goal.returns-in-err-state
-returns-in-err-state c =
+pub returns-in_err-state : goal.returns-in_err-state
+returns-in_err-state c =
     let L = ledger c.args.sheet.now in
     let k = effect_kind c.args.effect in
-    let f = c.in-err-state.field-0.0 in
-    let r = c.from-residual-in-err-state.result in
-    let was = c.in-err-state.ensures in
-    faulted (AsksExtremes L c.args.state k L) c.args.line.now r (Question UnknownState) (wrapped Question f r c.from-residual-in-err-state.ensures.1 ∙ ap (λ q. Err (Question q)) was.0)
-    (at-state L c.args.state k c.in-ok-kind.kind c.in-ok-kind.ensures was.1)
+    let f = c.in_err-state.field-0.0 in
+    let r = c.from-residual-in_err-state.result in
+    let was = c.in_err-state.ensures in
+    faulted (AsksExtremes L c.args.state k L) c.args.line.now r (Question UnknownState) (wrapped Question f r c.from-residual-in_err-state.ensures.1 ∙ ap (λ q. Err (Question q)) was.0)
+    (at-state L c.args.state k c.in_ok-kind.kind c.in_ok-kind.ensures was.1)
 
 pub returns : goal.returns
 returns c =
@@ -36,9 +36,9 @@ returns c =
     let high = c.extremes-low.result.1 in
     let f : SFits w64 low = search rules in
     let g : SFits w64 high = search rules in
-    let state = c.in-ok-state.ensures in
-    let kind = c.in-ok-kind.kind in
+    let state = c.in_ok-state.ensures in
+    let kind = c.in_ok-kind.kind in
     let found = subst (λ fs. Extremes fs kind L.rows low high) state.2 c.extremes-low.ensures.answer in
-    printed (AsksExtremes L c.args.state k L) c.args.line.now (extremes_line low high) c.write-extremes.result c.write-extremes.new.line
-    (told L c.args.state k kind c.in-ok-kind.ensures low high state.0 state.1 found)
-    (subst (λ text. Wrote text c.args.line.now c.write-extremes.result c.write-extremes.new.line) (λ i. extremes_line (to_z-of_z f i) (to_z-of_z g i)) c.write-extremes.ensures)
+    printed (AsksExtremes L c.args.state k L) c.args.line.now (extremes_line low high) c.write_extremes.result c.write_extremes.new.line
+    (told L c.args.state k kind c.in_ok-kind.ensures low high state.0 state.1 found)
+    (subst (λ text. Wrote text c.args.line.now c.write_extremes.result c.write_extremes.new.line) (λ i. extremes_line (to_z-of_z f i) (to_z-of_z g i)) c.write_extremes.ensures)

@@ -11,34 +11,34 @@ use Rattle.record.specs.Runs.{TellsShear}
 use Rattle.record.proofs.Outcomes.{wrapped, faulted, printed, shear_refused}
 use Rattle.record.proofs.running.run_shear.Goals as goal
 
-pub returns-in-err-force : goal.returns-in-err-force
-returns-in-err-force c =
+pub returns-in_err-force : goal.returns-in_err-force
+returns-in_err-force c =
     let L = ledger c.args.sheet.now in
     let d = spacing_of c.args.spacing in
-    let f = c.in-err-force.field-0.0 in
+    let f = c.in_err-force.field-0.0 in
     faulted (TellsShear L c.args.state d L) c.args.line.now c.from-residual.result (Question f) (wrapped Question f c.from-residual.result c.from-residual.ensures.1)
-    (shear_refused L c.args.state d f (subst (λ o. RefusesShear L o f) c.spacing-of-spacing.ensures c.in-err-force.ensures))
+    (shear_refused L c.args.state d f (subst (λ o. RefusesShear L o f) c.spacing_of-spacing.ensures c.in_err-force.ensures))
 
-pub returns-in-err-state : goal.returns-in-err-state
-returns-in-err-state c =
+pub returns-in_err-state : goal.returns-in_err-state
+returns-in_err-state c =
     let L = ledger c.args.sheet.now in
     let d = spacing_of c.args.spacing in
-    let f = c.in-err-state.field-0.0 in
-    let r = c.from-residual-in-err-state.result in
-    let was = c.in-err-state.ensures in
-    let force = subst (λ o. IsShearResistance L o c.in-ok-force.force) c.spacing-of-spacing.ensures c.in-ok-force.ensures in
-    faulted (TellsShear L c.args.state d L) c.args.line.now r (Question UnknownState) (wrapped Question f r c.from-residual-in-err-state.ensures.1 ∙ ap (λ q. Err (Question q)) was.0)
-    ((was.1, (c.in-ok-force.force, force)), refl)
+    let f = c.in_err-state.field-0.0 in
+    let r = c.from-residual-in_err-state.result in
+    let was = c.in_err-state.ensures in
+    let force = subst (λ o. IsShearResistance L o c.in_ok-force.force) c.spacing_of-spacing.ensures c.in_ok-force.ensures in
+    faulted (TellsShear L c.args.state d L) c.args.line.now r (Question UnknownState) (wrapped Question f r c.from-residual-in_err-state.ensures.1 ∙ ap (λ q. Err (Question q)) was.0)
+    ((was.1, (c.in_ok-force.force, force)), refl)
 
 pub returns : goal.returns
 returns c =
     let L = ledger c.args.sheet.now in
     let d = spacing_of c.args.spacing in
     let n = c.args.state in
-    let force = c.in-ok-force.force in
-    let state = c.in-ok-state.ensures in
-    let is = subst (λ o. IsShearResistance L o force) c.spacing-of-spacing.ensures c.in-ok-force.ensures in
-    let v = c.shear-verdict-verdict.result in
-    let judged = subst (λ fs. JudgesShear fs L.rows force v) state.2 c.shear-verdict-verdict.ensures in
-    printed (TellsShear L n d L) c.args.line.now (shear_line force (verdict_number v)) c.write-shear.result c.write-shear.new.line
-    (state.0, state.1, refl, (force, v, is, judged, refl)) c.write-shear.ensures
+    let force = c.in_ok-force.force in
+    let state = c.in_ok-state.ensures in
+    let is = subst (λ o. IsShearResistance L o force) c.spacing_of-spacing.ensures c.in_ok-force.ensures in
+    let v = c.shear_verdict-verdict.result in
+    let judged = subst (λ fs. JudgesShear fs L.rows force v) state.2 c.shear_verdict-verdict.ensures in
+    printed (TellsShear L n d L) c.args.line.now (shear_line force (verdict_number v)) c.write_shear.result c.write_shear.new.line
+    (state.0, state.1, refl, (force, v, is, judged, refl)) c.write_shear.ensures

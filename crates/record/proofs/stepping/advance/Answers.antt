@@ -27,8 +27,8 @@ returns-in-Err c =
     let L = ledger c.args.sheet.now in
     faulted _ c.args.line.now _ (Reading c.in-Err.fault) refl (unread L c.args.bytes.now c.args.place (omega arith) c.in-Err.fault c.in-Err.ensures)
 
-pub overflow-sub-result : goal.overflow-sub-result
-overflow-sub-result c =
+pub overflow_sub-result : goal.overflow_sub-result
+overflow_sub-result c =
     let bytes = c.args.bytes.now in
     let part = take (length bytes - c.args.place) (drop c.args.place bytes) in
     omega (arith, shorter part c.in-Ok.command c.in-Ok.rest.now c.in-Ok.ensures, length-take (length bytes - c.args.place) (drop c.args.place bytes), length-drop c.args.place bytes)

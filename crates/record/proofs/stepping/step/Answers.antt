@@ -28,4 +28,4 @@ returns-in-Err c =
     let next = c.advance-next.result.0 in
     let told = subst (λ r. Delivers (Advances L c.args.bytes.now c.args.place M next) c.args.line.now r c.advance-next.new.line) c.in-Err.is c.advance-next.ensures in
     wrote_fault L c.args.bytes.now c.args.place c.args.line.now c.if-bytes-gt65536.false c.if-line-lt64.false M next c.in-Err.fault c.advance-next.new.line
-    c.write-fault-written.result c.write-fault-written.new.line told c.write-fault-written.ensures
+    c.write_fault-written.result c.write_fault-written.new.line told c.write_fault-written.ensures

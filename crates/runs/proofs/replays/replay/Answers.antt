@@ -15,7 +15,7 @@ loop-call-init g c =
 pub loop-call-preserved : goal.loop-call-preserved
 loop-call-preserved g c =
     run_more (request g.P.Part.pushes g.P.Part.pulls) c.args.calls.now c.loop-call.call-index c.call-item.result (vec_items c.loop-call.replies) (vec_items c.push.new.self)
-    (ledger c.loop-call.sheet) c.answer-reply.result (ledger c.answer-reply.new.sheet) c.loop-call-test.true c.call-item.is c.in-ok-push.ensures.items c.loop-call.invariant c.answer-reply.ensures
+    (ledger c.loop-call.sheet) c.answer-reply.result (ledger c.answer-reply.new.sheet) c.loop-call-test.true c.call-item.is c.in_ok-push.ensures.items c.loop-call.invariant c.answer-reply.ensures
 
 pub returns : goal.returns
 returns g c =

@@ -13,7 +13,7 @@ loop-low-init g c =
 
 pub loop-low-preserved-then-above-below : goal.loop-low-preserved-then-above-below
 loop-low-preserved-then-above-below g c =
-    narrowed_low c.args.sense _ _ c.loop-low.low c.loop-low.high _ _ c.loop-low.invariant (omega arith) c.forces-together-above.ensures c.if-above-below.true
+    narrowed_low c.args.sense _ _ c.loop-low.low c.loop-low.high _ _ c.loop-low.invariant (omega arith) c.forces_together-above.ensures c.if-above-below.true
 
 pub returns-then-before-here : goal.returns-then-before-here
 returns-then-before-here g c =

@@ -8,24 +8,24 @@ use Rattle.kinds.proofs.deck.Deck.bar_resultants.Goals as goal
 pub loop-bar-init : goal.loop-bar-init
 loop-bar-init c sense = resultants_none sense _ (omega arith)
 
-pub overflow-add-above : goal.overflow-add-above
-overflow-add-above c =
+pub overflow_add-above : goal.overflow_add-above
+overflow_add-above c =
     let d = c.args.self.now in
     let l : c.loop-bar.bar-index < length d.bars = omega (arith, d.long) in
     let t = resultants_next Sagging d.bars c.loop-bar.bar-index c.bar-item.result _ c.loop-bar.above c.loop-bar.below c.loop-bar.moment c.resultants-at.result l c.bar-item.is (c.loop-bar.invariant Sagging) (c.resultants-at.ensures Sagging) in
     let b = stack_small Sagging d.bars _ c.args.level _ _ _ (omega (arith, d.light)) t in
     omega arith
 
-pub overflow-add-below : goal.overflow-add-below
-overflow-add-below c =
+pub overflow_add-below : goal.overflow_add-below
+overflow_add-below c =
     let d = c.args.self.now in
     let l : c.loop-bar.bar-index < length d.bars = omega (arith, d.long) in
     let t = resultants_next Sagging d.bars c.loop-bar.bar-index c.bar-item.result _ c.loop-bar.above c.loop-bar.below c.loop-bar.moment c.resultants-at.result l c.bar-item.is (c.loop-bar.invariant Sagging) (c.resultants-at.ensures Sagging) in
     let b = stack_small Sagging d.bars _ c.args.level _ _ _ (omega (arith, d.light)) t in
     omega arith
 
-pub overflow-add-moment : goal.overflow-add-moment
-overflow-add-moment c =
+pub overflow_add-moment : goal.overflow_add-moment
+overflow_add-moment c =
     let d = c.args.self.now in
     let l : c.loop-bar.bar-index < length d.bars = omega (arith, d.long) in
     let t = resultants_next Sagging d.bars c.loop-bar.bar-index c.bar-item.result _ c.loop-bar.above c.loop-bar.below c.loop-bar.moment c.resultants-at.result l c.bar-item.is (c.loop-bar.invariant Sagging) (c.resultants-at.ensures Sagging) in

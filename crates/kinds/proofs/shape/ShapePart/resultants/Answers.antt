@@ -7,43 +7,43 @@ use Rattle.kinds.proofs.shape.ShapePart.resultants.Goals.{then-strip-level, else
 pub loop-i-init : goal.loop-i-init
 loop-i-init c = start _ _ _ _
 
-pub overflow-add-above : goal.overflow-add-above
-overflow-add-above c =
+pub overflow_add-above : goal.overflow_add-above
+overflow_add-above c =
     let s = c.args.self.now in
     let t = upper_turn s.top s.fy s.breadths.now c.min-level.result c.loop-i.i _ _ _ c.loop-i.invariant c.if-strip-level.true in
     let b = small s.top s.fy s.breadths.now _ _ _ _ _ s.inside s.light (omega arith) (omega arith) t in
     omega arith
 
-pub overflow-mul-moment-then-strip-level : goal.overflow-mul-moment-then-strip-level
-overflow-mul-moment-then-strip-level c =
+pub overflow_mul-moment-then-strip-level : goal.overflow_mul-moment-then-strip-level
+overflow_mul-moment-then-strip-level c =
     let s = c.args.self.now in
     let t = upper_turn s.top s.fy s.breadths.now c.min-level.result c.loop-i.i _ _ _ c.loop-i.invariant c.if-strip-level.true in
     let b = small s.top s.fy s.breadths.now _ _ _ _ _ s.inside s.light (omega arith) (omega arith) t in
     omega arith
 
-pub overflow-add-moment : goal.overflow-add-moment
-overflow-add-moment c =
+pub overflow_add-moment : goal.overflow_add-moment
+overflow_add-moment c =
     let s = c.args.self.now in
     let t = upper_turn s.top s.fy s.breadths.now c.min-level.result c.loop-i.i _ _ _ c.loop-i.invariant c.if-strip-level.true in
     let b = small s.top s.fy s.breadths.now _ _ _ _ _ s.inside s.light (omega arith) (omega arith) t in
     omega arith
 
-pub overflow-add-below : goal.overflow-add-below
-overflow-add-below c =
+pub overflow_add-below : goal.overflow_add-below
+overflow_add-below c =
     let s = c.args.self.now in
     let t = lower_turn s.top s.fy s.breadths.now c.min-level.result c.loop-i.i _ _ _ c.loop-i.invariant c.if-strip-level.false in
     let b = small s.top s.fy s.breadths.now _ _ _ _ _ s.inside s.light (omega arith) (omega arith) t in
     omega arith
 
-pub overflow-mul-moment-else-strip-level-2 : goal.overflow-mul-moment-else-strip-level-2
-overflow-mul-moment-else-strip-level-2 c =
+pub overflow_mul-moment-else-strip-level-2 : goal.overflow_mul-moment-else-strip-level-2
+overflow_mul-moment-else-strip-level-2 c =
     let s = c.args.self.now in
     let t = lower_turn s.top s.fy s.breadths.now c.min-level.result c.loop-i.i _ _ _ c.loop-i.invariant c.if-strip-level.false in
     let b = small s.top s.fy s.breadths.now _ _ _ _ _ s.inside s.light (omega arith) (omega arith) t in
     omega arith
 
-pub overflow-add-moment-else-strip-level-2 : goal.overflow-add-moment-else-strip-level-2
-overflow-add-moment-else-strip-level-2 c =
+pub overflow_add-moment-else-strip-level-2 : goal.overflow_add-moment-else-strip-level-2
+overflow_add-moment-else-strip-level-2 c =
     let s = c.args.self.now in
     let t = lower_turn s.top s.fy s.breadths.now c.min-level.result c.loop-i.i _ _ _ c.loop-i.invariant c.if-strip-level.false in
     let b = small s.top s.fy s.breadths.now _ _ _ _ _ s.inside s.light (omega arith) (omega arith) t in

@@ -3,5 +3,5 @@ use Rattle.std.proofs.Common.{◌-◌}
 use Rattle.loads.proofs.Laws.{published_lawful}
 use Rattle.loads.proofs.limit_state.LimitState.published.Goals as goal
 
-pub invariant-of-result : goal.invariant-of-result
-invariant-of-result c = (published_lawful (c.args.number - 1), tt)
+pub invariant_of-result : goal.invariant_of-result
+invariant_of-result c = (published_lawful (c.args.number - 1), tt)

@@ -12,14 +12,14 @@ one_digit NotCompact = omega arith
 one_digit Brittle = omega arith
 one_digit TooWeak = omega arith
 
-pub put-digit-requires : goal.put-digit-requires
-put-digit-requires c = record { small = subst (λ (n : ℕ). n < 10) (sym c.number.ensures) (one_digit c.args.verdict); within = omega arith }
+pub put_digit-requires : goal.put_digit-requires
+put_digit-requires c = record { small = subst (λ (n : ℕ). n < 10) (sym c.number.ensures) (one_digit c.args.verdict); within = omega arith }
 
 pub returns : goal.returns
 returns c =
     let small : c.number.result < 10 = subst (λ (n : ℕ). n < 10) (sym c.number.ensures) (one_digit c.args.verdict) in
     record {
-      same = c.put-digit.ensures.same;
-      adds = adds_is (ap decimal c.number.ensures) (adds_digit c.number.result small c.put-digit.ensures.adds);
-      bound = omega (arith, c.put-digit.ensures.adds.len);
+      same = c.put_digit.ensures.same;
+      adds = adds_is (ap decimal c.number.ensures) (adds_digit c.number.result small c.put_digit.ensures.adds);
+      bound = omega (arith, c.put_digit.ensures.adds.len);
     }

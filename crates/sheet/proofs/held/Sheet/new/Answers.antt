@@ -5,7 +5,7 @@ use Rattle.sheet.proofs.Kept.{light_empties, within-empties}
 use Rattle.sheet.proofs.Roles.{once_empties}
 use Rattle.sheet.proofs.held.Sheet.new.Goals as goal
 
-pub invariant-of-result : goal.invariant-of-result
-invariant-of-result c =
+pub invariant_of-result : goal.invariant_of-result
+invariant_of-result c =
     let e = sym c.new.ensures in
     (subst Light e (light_empties 24), (subst Within e (within-empties 24), (subst Once e (once_empties 24), tt)))

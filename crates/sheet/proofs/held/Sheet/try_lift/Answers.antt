@@ -5,10 +5,10 @@ use Rattle.sheet.proofs.Kept.{light_lift, within-lift}
 use Rattle.sheet.proofs.Roles.{once_lift}
 use Rattle.sheet.proofs.held.Sheet.try_lift.Goals as goal
 
-pub invariant-of-self : goal.invariant-of-self
-invariant-of-self c =
+pub invariant_of-self : goal.invariant_of-self
+invariant_of-self c =
     let s = c.args.self.now in
     let xs = s.plates.slots in
     let h : c.args.slot < length xs = omega (arith, s.plates.long) in
-    let e = sym c.take-out.ensures in
+    let e = sym c.take_out.ensures in
     (subst Light e (light_lift xs c.args.slot h s.light), (subst Within e (within-lift xs c.args.slot h s.within), (subst Once e (once_lift xs c.args.slot h s.once), tt)))

@@ -5,9 +5,9 @@ use Rattle.sheet.proofs.Kept.{light_lower, within-lower}
 use Rattle.sheet.proofs.Roles.{once_lowered}
 use Rattle.sheet.proofs.held.Sheet.try_lower.Goals as goal
 
-pub invariant-of-self : goal.invariant-of-self
-invariant-of-self c =
+pub invariant_of-self : goal.invariant_of-self
+invariant_of-self c =
     let s = c.args.self.now in
     let xs = s.plates.slots in
     let e = sym c.lower.ensures in
-    (subst Light e (light_lower c.args.n xs s.light), (subst Within e (within-lower c.args.n xs s.within (sym c.if-would-pass.ensures)), (subst Once e (once_lowered c.args.n xs s.once), tt)))
+    (subst Light e (light_lower c.args.n xs s.light), (subst Within e (within-lower c.args.n xs s.within (sym c.if-would_pass.ensures)), (subst Once e (once_lowered c.args.n xs s.once), tt)))

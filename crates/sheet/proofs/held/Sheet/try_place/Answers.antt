@@ -7,33 +7,33 @@ use Rattle.sheet.proofs.Kept.{lawful_force, within_lawful, light_put, within_put
 use Rattle.sheet.proofs.Roles.{once_put}
 use Rattle.sheet.proofs.held.Sheet.try_place.Goals as goal
 
-pub overflow-add-total-force : goal.overflow-add-total-force
-overflow-add-total-force c =
-    omega (arith, lawful_force c.args.plate (sym c.if-not-is-lawful.ensures), ap force c.plate-plate.ensures, c.args.self.now.light)
+pub overflow_add-total_force : goal.overflow_add-total_force
+overflow_add-total_force c =
+    omega (arith, lawful_force c.args.plate (sym c.if-not-is_lawful.ensures), ap force c.plate-plate.ensures, c.args.self.now.light)
 
 pub put-requires : goal.put-requires
 put-requires c =
     let is = c.plate-plate.ensures in
     record {
       within = omega arith;
-      empty = sym c.if-is-full.ensures;
-      lawful = ap within is ∙ within_lawful c.args.plate (sym c.if-not-is-lawful.ensures);
-      apart = sym c.if-has-role.ensures;
-      light = omega (arith, c.total-force.ensures, c.force.ensures, c.if-total-force-force-gt-STRONGEST.false);
+      empty = sym c.if-is_full.ensures;
+      lawful = ap within is ∙ within_lawful c.args.plate (sym c.if-not-is_lawful.ensures);
+      apart = sym c.if-has_role.ensures;
+      light = omega (arith, c.total_force.ensures, c.force.ensures, c.if-total_force-force-gt-STRONGEST.false);
     }
 
-pub invariant-of-self : goal.invariant-of-self
-invariant-of-self c =
+pub invariant_of-self : goal.invariant_of-self
+invariant_of-self c =
     let s = c.args.self.now in
     let xs = s.plates.slots in
     let slot = c.args.slot in
     let p = c.args.plate in
     let is = c.plate-plate.ensures in
     let h : slot < length xs = omega (arith, s.plates.long) in
-    let lawful = sym c.if-not-is-lawful.ensures in
+    let lawful = sym c.if-not-is_lawful.ensures in
     let e = sym (c.put.ensures ∙ ap (λ (q : Plate). set xs slot (Some q)) is) in
-    let apart = sym (c.if-has-role.ensures ∙ ap (λ (q : Plate). stands q.role xs) is) in (
-      subst Light e (light_put xs slot p h lawful (sym c.if-is-full.ensures) (omega (arith, c.total-force.ensures, c.force.ensures, ap force is, c.if-total-force-force-gt-STRONGEST.false))),
+    let apart = sym (c.if-has_role.ensures ∙ ap (λ (q : Plate). stands q.role xs) is) in (
+      subst Light e (light_put xs slot p h lawful (sym c.if-is_full.ensures) (omega (arith, c.total_force.ensures, c.force.ensures, ap force is, c.if-total_force-force-gt-STRONGEST.false))),
       (
         subst Within e (within_put xs slot p h lawful s.within),
         (subst Once e (once_put xs slot (plate_of p) h s.once apart), tt),

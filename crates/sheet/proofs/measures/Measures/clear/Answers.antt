@@ -2,5 +2,5 @@
 use Rattle.std.proofs.Common.{◌∙◌, length-set}
 use Rattle.sheet.proofs.measures.Measures.clear.Goals as goal
 
-pub invariant-of-self : goal.invariant-of-self
-invariant-of-self c = let s = c.args.self.now in (s.topped, (length-set s.heights _ _ ∙ s.sized, (s.strong, tt)))
+pub invariant_of-self : goal.invariant_of-self
+invariant_of-self c = let s = c.args.self.now in (s.topped, (length-set s.heights _ _ ∙ s.sized, (s.strong, tt)))

@@ -3,8 +3,8 @@ use Rattle.std.proofs.Common.{◌≤◌, ◌∙◌, mul-le-mul, arith, length-se
 use Rattle.sheet.proofs.MeasuresKept.{sizes}
 use Rattle.sheet.proofs.measures.Measures.note.Goals as goal
 
-pub overflow-mul-self : goal.overflow-mul-self
-overflow-mul-self c = let z = sizes c.args.plate.now c.requires.lawful in let b : c.from.result ≤ 4096 = omega (arith, z.0, c.from.ensures) in omega (arith, mul-le-mul b z.1)
+pub overflow_mul-self : goal.overflow_mul-self
+overflow_mul-self c = let z = sizes c.args.plate.now c.requires.lawful in let b : c.from.result ≤ 4096 = omega (arith, z.0, c.from.ensures) in omega (arith, mul-le-mul b z.1)
 
-pub invariant-of-self : goal.invariant-of-self
-invariant-of-self c = let s = c.args.self.now in (length-set s.tops _ _ ∙ s.topped, (length-set s.heights _ _ ∙ s.sized, (length-set s.strengths _ _ ∙ s.strong, tt)))
+pub invariant_of-self : goal.invariant_of-self
+invariant_of-self c = let s = c.args.self.now in (length-set s.tops _ _ ∙ s.topped, (length-set s.heights _ _ ∙ s.sized, (length-set s.strengths _ _ ∙ s.strong, tt)))

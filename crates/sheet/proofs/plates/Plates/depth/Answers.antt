@@ -6,7 +6,7 @@ use Rattle.section.proofs.Together.{depth_none}
 use Rattle.sheet.specs.PlateStrips.{plate_strips}
 use Rattle.sheet.proofs.PlateSums.{plate_kept, next_none, depth_next}
 use Rattle.sheet.proofs.plates.Plates.depth.Goals as goal
-use Rattle.sheet.proofs.plates.Plates.depth.Goals.{in-Some, in-default}
+use Rattle.sheet.proofs.plates.Plates.depth.Goals.{in-Some, in_default}
 
 pub loop-slot-init : goal.loop-slot-init
 loop-slot-init c = depth_none
@@ -28,8 +28,8 @@ loop-slot-preserved c =
           subst (IsDepth (plate_strips (take (i + 1) xs)) (plate_strips (take (i + 1) xs))) (sym (w.deepest-is ∙ w.max-deepest.ensures))
           (depth_next xs i h w.in-Some.plate w.in-Some.is
           c.loop-slot.deepest w.foot.result c.loop-slot.invariant w.foot.ensures)
-      | in-default w ↦
-          subst (λ f. IsDepth f f c.match-slot.deepest) (sym (next_none xs i h w.in-default.is)) (subst (IsDepth (plate_strips (take i xs)) (plate_strips (take i xs))) (sym w.deepest-is) c.loop-slot.invariant)
+      | in_default w ↦
+          subst (λ f. IsDepth f f c.match-slot.deepest) (sym (next_none xs i h w.in_default.is)) (subst (IsDepth (plate_strips (take i xs)) (plate_strips (take i xs))) (sym w.deepest-is) c.loop-slot.invariant)
     ]
 
 pub returns : goal.returns

@@ -4,7 +4,7 @@ use Rattle.sheet.specs.Plates.{standing}
 use Rattle.sheet.proofs.SlotTests.{standing_here, standing_other, standing_none}
 use Rattle.std.proofs.lemmas.List.{at_drop_all}
 use Rattle.sheet.proofs.plates.Plates.first_with.Goals as goal
-use Rattle.sheet.proofs.plates.Plates.first_with.Goals.{in-Some+else-is, in-default}
+use Rattle.sheet.proofs.plates.Plates.first_with.Goals.{in-Some+else-is, in_default}
 
 pub returns-then-is : goal.returns-then-is
 returns-then-is c =
@@ -19,7 +19,7 @@ loop-slot-preserved c =
     let h : i < length xs = omega (arith, c.args.self.now.long) in
     elim c.match-slot.branch [
       | in-Some+else-is w ↦ sym (standing_other c.args.role xs i w.in-Some.plate h w.in-Some.is (sym w.if-is.ensures)) ∙ c.loop-slot.invariant
-      | in-default w ↦ sym (standing_none c.args.role xs i h w.in-default.is) ∙ c.loop-slot.invariant
+      | in_default w ↦ sym (standing_none c.args.role xs i h w.in_default.is) ∙ c.loop-slot.invariant
     ]
 
 pub returns : goal.returns

@@ -8,10 +8,10 @@ use Rattle.sheet.specs.RoleSlots.{slot_with}
 use Rattle.sheet.proofs.MeasuresKept.{fits_same, fits_lower}
 use Rattle.sheet.proofs.RolePlaces.{read_note, make_note, slot-lowered}
 use Rattle.sheet.proofs.plates.Plates.lower.Goals as goal
-use Rattle.sheet.proofs.plates.Plates.lower.Goals.{in-Some, in-default}
+use Rattle.sheet.proofs.plates.Plates.lower.Goals.{in-Some, in_default}
 
-pub invariant-of-self : goal.invariant-of-self
-invariant-of-self c =
+pub invariant_of-self : goal.invariant_of-self
+invariant_of-self c =
     let slots = c.args.self.now.slots in
     let f = lowered_in c.args.n in
     let long = c.args.self.now.long in
@@ -19,8 +19,8 @@ invariant-of-self c =
     let m = c.args.self.now.measures in
     (ap length all ∙ length-map slots f ∙ long, (c.args.self.now.totalled ∙ sym (ap total_force all ∙ total_force_kept c.args.n slots), (make_note c.args.self.now.roles c.loop-slot.slot-items (λ r. read_note c.args.self.now.roles slots c.args.self.now.placed r ∙ sym (ap (slot_with r) all ∙ slot-lowered c.args.n r slots)), (fits_same _ _ _ _ _ _ _ _ all c.lower.ensures.tops c.lower.ensures.heights c.lower.ensures.strengths (fits_lower c.args.n slots m.tops m.heights m.strengths (omega (arith, long, m.topped)) c.requires c.args.self.now.measured), tt))))
 
-pub overflow-add-plate : goal.overflow-add-plate
-overflow-add-plate c =
+pub overflow_add-plate : goal.overflow_add-plate
+overflow_add-plate c =
     let slots = c.args.self.now.slots in
     let n = c.args.n in
     let i = c.loop-slot.slot-index in
@@ -38,7 +38,7 @@ loop-slot-preserved c =
     let h : i < length slots = omega (arith, c.args.self.now.long) in
     elim c.match-slot.branch [
       | in-Some w ↦ w.slot·items-is ∙ over_step f slots now' i c.loop-slot.invariant None (Some w.in-Some.plate) h w.in-Some.is
-      | in-default w ↦ rw w.in-default.is at w.slot·items-is ∙ over_step f slots now' i c.loop-slot.invariant None None h w.in-default.is
+      | in_default w ↦ rw w.in_default.is at w.slot·items-is ∙ over_step f slots now' i c.loop-slot.invariant None None h w.in_default.is
     ]
 
 pub returns : goal.returns

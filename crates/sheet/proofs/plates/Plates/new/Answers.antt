@@ -6,5 +6,5 @@ use Rattle.sheet.proofs.MeasuresKept.{fits_empties}
 use Rattle.sheet.proofs.RolePlaces.{make_note, slot-empties}
 use Rattle.sheet.proofs.plates.Plates.new.Goals as goal
 
-pub invariant-of-result : goal.invariant-of-result
-invariant-of-result c = (refl, (sym (force-empties 24), (make_note c.new.result (empties 24) (λ r. c.new.ensures r ∙ sym (slot-empties r 24)), (fits_empties 24 _ _ _ c.new-2.ensures, tt))))
+pub invariant_of-result : goal.invariant_of-result
+invariant_of-result c = (refl, (sym (force-empties 24), (make_note c.new.result (empties 24) (λ r. c.new.ensures r ∙ sym (slot-empties r 24)), (fits_empties 24 _ _ _ c.new-2.ensures, tt))))

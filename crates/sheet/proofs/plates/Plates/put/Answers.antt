@@ -8,8 +8,8 @@ use Rattle.sheet.proofs.MeasuresKept.{fits_same, fits_put}
 use Rattle.sheet.proofs.RolePlaces.{read_note, make_note, slot_put}
 use Rattle.sheet.proofs.plates.Plates.put.Goals as goal
 
-pub invariant-of-self : goal.invariant-of-self
-invariant-of-self c =
+pub invariant_of-self : goal.invariant_of-self
+invariant_of-self c =
     let s = c.args.self.now in
     let xs = s.slots in
     let slot = c.args.slot in

@@ -6,7 +6,7 @@ use Rattle.section.proofs.Together.{resultants_none}
 use Rattle.sheet.specs.PlateStrips.{plate_strips}
 use Rattle.sheet.proofs.PlateSums.{plate_kept, next_none, moved_level, resultants_next, added_small}
 use Rattle.sheet.proofs.plates.Plates.resultants.Goals as goal
-use Rattle.sheet.proofs.plates.Plates.resultants.Goals.{in-Some, in-default}
+use Rattle.sheet.proofs.plates.Plates.resultants.Goals.{in-Some, in_default}
 
 pub loop-slot-init : goal.loop-slot-init
 loop-slot-init c = λ s. resultants_none s (min c.args.level 4096) (omega arith)
@@ -18,22 +18,22 @@ resultants-one-requires c =
     let k = plate_kept xs c.requires.light c.requires.inside c.loop-slot.slot-index c.in-Some.plate h c.in-Some.is in
     record { inside = k.0; light = k.1; shallow = omega (arith, c.min-at.ensures) }
 
-pub overflow-add-above : goal.overflow-add-above
-overflow-add-above c =
+pub overflow_add-above : goal.overflow_add-above
+overflow_add-above c =
     let xs = c.args.self.now.slots in
     let h : c.loop-slot.slot-index < length xs = omega (arith, c.args.self.now.long) in
     let small = added_small xs c.requires.light c.requires.inside c.loop-slot.slot-index h c.in-Some.plate c.in-Some.is c.args.level _ c.resultants-one.result c.loop-slot.invariant (moved_level _ _ _ _ c.min-at.ensures c.resultants-one.ensures) in
     omega (arith, small.0)
 
-pub overflow-add-below : goal.overflow-add-below
-overflow-add-below c =
+pub overflow_add-below : goal.overflow_add-below
+overflow_add-below c =
     let xs = c.args.self.now.slots in
     let h : c.loop-slot.slot-index < length xs = omega (arith, c.args.self.now.long) in
     let small = added_small xs c.requires.light c.requires.inside c.loop-slot.slot-index h c.in-Some.plate c.in-Some.is c.args.level _ c.resultants-one.result c.loop-slot.invariant (moved_level _ _ _ _ c.min-at.ensures c.resultants-one.ensures) in
     omega (arith, small.1)
 
-pub overflow-add-moment : goal.overflow-add-moment
-overflow-add-moment c =
+pub overflow_add-moment : goal.overflow_add-moment
+overflow_add-moment c =
     let xs = c.args.self.now.slots in
     let h : c.loop-slot.slot-index < length xs = omega (arith, c.args.self.now.long) in
     let small = added_small xs c.requires.light c.requires.inside c.loop-slot.slot-index h c.in-Some.plate c.in-Some.is c.args.level _ c.resultants-one.result c.loop-slot.invariant (moved_level _ _ _ _ c.min-at.ensures c.resultants-one.ensures) in
@@ -49,7 +49,7 @@ loop-slot-preserved c =
           rw (w.above_is, w.below_is, w.moment_is)
           (resultants_next xs i h w.in-Some.plate w.in-Some.is s (min c.args.level 4096) _ w.resultants-one.result (c.loop-slot.invariant s)
           (moved_level _ _ _ _ c.min-at.ensures w.resultants-one.ensures s))
-      | in-default w ↦ λ s. rw (w.above_is, w.below_is, w.moment_is) (rw (next_none xs i h w.in-default.is) (c.loop-slot.invariant s))
+      | in_default w ↦ λ s. rw (w.above_is, w.below_is, w.moment_is) (rw (next_none xs i h w.in_default.is) (c.loop-slot.invariant s))
     ]
 
 pub returns : goal.returns

@@ -7,16 +7,16 @@ use Rattle.sheet.proofs.MeasuresKept.{fits_same, fits_out}
 use Rattle.sheet.proofs.RolePlaces.{read_note, make_note, slot_out}
 use Rattle.sheet.proofs.plates.Plates.take_out.Goals as goal
 
-pub overflow-sub-self : goal.overflow-sub-self
-overflow-sub-self c =
+pub overflow_sub-self : goal.overflow_sub-self
+overflow_sub-self c =
     let s = c.args.self.now in
     let xs = s.slots in
     let slot = c.args.slot in
     let h : slot < length xs = omega (arith, s.long) in
     omega (arith, s.totalled, c.force.ensures, get_or-le-sum_by force_in xs slot None h, ap force_in c.in-Some.ensures)
 
-pub invariant-of-self : goal.invariant-of-self
-invariant-of-self c =
+pub invariant_of-self : goal.invariant_of-self
+invariant_of-self c =
     let s = c.args.self.now in
     let p = c.in-Some.plate in
     let xs = s.slots in
@@ -27,7 +27,7 @@ invariant-of-self c =
       (omega (arith, s.totalled, c.force.ensures, sum_by-set force_in xs slot None None h, ap force_in c.in-Some.ensures), (make_note _ (set xs slot None) (λ r. c.note.ensures r ∙ ap (cond (clash p.role r) None) (read_note s.roles xs s.placed r) ∙ slot_out xs slot p h (sym c.in-Some.ensures) c.requires.once r), (fits_same _ _ _ _ _ _ _ _ refl c.clear.ensures.tops c.clear.ensures.heights c.clear.ensures.strengths (fits_out xs m.tops m.heights m.strengths slot h (omega (arith, m.sized)) s.decreases), tt))),
     )
 
-pub returns-in-default : goal.returns-in-default
-returns-in-default c =
+pub returns-in_default : goal.returns-in_default
+returns-in_default c =
     let xs = c.args.self.now.slots in
-    sym (set-get_or xs c.args.slot None) ∙ ap (set xs c.args.slot) (sym c.in-default.ensures)
+    sym (set-get_or xs c.args.slot None) ∙ ap (set xs c.args.slot) (sym c.in_default.ensures)

@@ -15,11 +15,11 @@ returns-in-Some c =
     let role = c.args.role in
     c.get-in-Some.ensures
     ∙ ap (at_slot s.slots) (c.in-Some.ensures ∙ read_note s.roles s.slots s.placed role)
-    ∙ sym (standing-slot role (single role c.in-default.not-Other) s.slots)
+    ∙ sym (standing-slot role (single role c.in_default.not-Other) s.slots)
 
 pub returns-in-None : goal.returns-in-None
 returns-in-None c =
     let s = c.args.self.now in
     let role = c.args.role in
     ap (at_slot s.slots) (c.in-None.ensures ∙ read_note s.roles s.slots s.placed role)
-    ∙ sym (standing-slot role (single role c.in-default.not-Other) s.slots)
+    ∙ sym (standing-slot role (single role c.in_default.not-Other) s.slots)

@@ -2,15 +2,15 @@ use Rattle.std.proofs.Common.{◌≡◌, ◌+◌, ◌<◌, ◌≤◌, length, So
 use Rattle.sheet.specs.Plates.{passes_in}
 use Rattle.sheet.proofs.SlotTests.{some_yes, some_no, some_end}
 use Rattle.sheet.proofs.plates.Plates.would_pass.Goals as goal
-use Rattle.sheet.proofs.plates.Plates.would_pass.Goals.{in-Some+else-would-pass, in-default}
+use Rattle.sheet.proofs.plates.Plates.would_pass.Goals.{in-Some+else-would_pass, in_default}
 
-pub returns-then-would-pass : goal.returns-then-would-pass
-returns-then-would-pass c =
+pub returns-then-would_pass : goal.returns-then-would_pass
+returns-then-would_pass c =
     let slots = c.args.self.now.slots in
     let f = passes_in c.args.n in
     let i = c.loop-slot.slot-index in
     let h : i < length slots = omega (arith, c.args.self.now.long) in
-    sym (sym c.loop-slot.invariant ∙ some_yes f slots i None h (ap f c.in-Some.is ∙ sym c.if-would-pass.ensures))
+    sym (sym c.loop-slot.invariant ∙ some_yes f slots i None h (ap f c.in-Some.is ∙ sym c.if-would_pass.ensures))
 
 pub loop-slot-preserved : goal.loop-slot-preserved
 loop-slot-preserved c =
@@ -19,8 +19,8 @@ loop-slot-preserved c =
     let i = c.loop-slot.slot-index in
     let h : i < length slots = omega (arith, c.args.self.now.long) in
     elim c.match-slot.branch [
-      | in-Some+else-would-pass w ↦ sym (some_no f slots i None h (ap f w.in-Some.is ∙ sym w.if-would-pass.ensures)) ∙ c.loop-slot.invariant
-      | in-default w ↦ sym (some_no f slots i None h (ap f w.in-default.is)) ∙ c.loop-slot.invariant
+      | in-Some+else-would_pass w ↦ sym (some_no f slots i None h (ap f w.in-Some.is ∙ sym w.if-would_pass.ensures)) ∙ c.loop-slot.invariant
+      | in_default w ↦ sym (some_no f slots i None h (ap f w.in_default.is)) ∙ c.loop-slot.invariant
     ]
 
 pub returns : goal.returns

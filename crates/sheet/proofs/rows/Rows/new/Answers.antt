@@ -4,5 +4,5 @@ use Rattle.loads.specs.declared.kind.EffectKind.TheVariants.{Moment, Shear}
 use Rattle.sheet.proofs.Sums.{small_empties, sums_empties}
 use Rattle.sheet.proofs.rows.Rows.new.Goals as goal
 
-pub invariant-of-result : goal.invariant-of-result
-invariant-of-result c = (refl, (small_empties 64, (sums_empties Moment 64, (sums_empties Shear 64, tt))))
+pub invariant_of-result : goal.invariant_of-result
+invariant_of-result c = (refl, (small_empties 64, (sums_empties Moment 64, (sums_empties Shear 64, tt))))

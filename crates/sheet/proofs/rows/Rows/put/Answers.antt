@@ -4,33 +4,33 @@ use Rattle.loads.specs.declared.kind.EffectKind.TheVariants.{Moment, Shear}
 use Rattle.sheet.proofs.Sums.{put_fits, put-summed, small_set, row_small}
 use Rattle.sheet.proofs.rows.Rows.put.Goals as goal
 
-pub overflow-add-self : goal.overflow-add-self
-overflow-add-self c =
+pub overflow_add-self : goal.overflow_add-self
+overflow_add-self c =
     let s = c.args.self.now in
-    put_fits Moment s.slots s.long s.small s.moments s.moments_summed c.args.row c.of-kind.result c.of-kind.ensures.value c.of-kind.ensures.bound
+    put_fits Moment s.slots s.long s.small s.moments s.moments_summed c.args.row c.of_kind.result c.of_kind.ensures.value c.of_kind.ensures.bound
     c.index-load.result c.index-load.ensures
 
-pub overflow-add-self-2 : goal.overflow-add-self-2
-overflow-add-self-2 c =
+pub overflow_add-self-2 : goal.overflow_add-self-2
+overflow_add-self-2 c =
     let s = c.args.self.now in
-    put_fits Shear s.slots s.long s.small s.shears s.shears_summed c.args.row c.of-kind-2.result c.of-kind-2.ensures.value c.of-kind-2.ensures.bound
+    put_fits Shear s.slots s.long s.small s.shears s.shears_summed c.args.row c.of_kind-2.result c.of_kind-2.ensures.value c.of_kind-2.ensures.bound
     c.index-load.result c.index-load.ensures
 
-pub invariant-of-self : goal.invariant-of-self
-invariant-of-self c =
+pub invariant_of-self : goal.invariant_of-self
+invariant_of-self c =
     let s = c.args.self.now in
     let xs = s.slots in
     let row = c.args.row in
     let h : c.args.slot < length xs = omega (arith, s.long) in
-    let m = c.of-kind.ensures in
-    let v = c.of-kind-2.ensures in (
+    let m = c.of_kind.ensures in
+    let v = c.of_kind-2.ensures in (
       length-set xs c.args.slot (Some row) ∙ s.long,
       (
-        small_set xs c.args.slot (Some row) h s.small (row_small row c.of-kind.result c.of-kind-2.result m.value m.bound v.value v.bound),
+        small_set xs c.args.slot (Some row) h s.small (row_small row c.of_kind.result c.of_kind-2.result m.value m.bound v.value v.bound),
         (
-          put-summed Moment xs s.long s.small s.moments s.moments_summed row c.of-kind.result m.value m.bound c.index-load.result c.index-load.ensures c.args.slot h c.requires.empty,
+          put-summed Moment xs s.long s.small s.moments s.moments_summed row c.of_kind.result m.value m.bound c.index-load.result c.index-load.ensures c.args.slot h c.requires.empty,
           (
-            put-summed Shear xs s.long s.small s.shears s.shears_summed row c.of-kind-2.result v.value v.bound c.index-load.result c.index-load.ensures c.args.slot h c.requires.empty,
+            put-summed Shear xs s.long s.small s.shears s.shears_summed row c.of_kind-2.result v.value v.bound c.index-load.result c.index-load.ensures c.args.slot h c.requires.empty,
             tt,
           ),
         ),

@@ -5,40 +5,40 @@ use Rattle.loads.specs.declared.kind.EffectKind.TheVariants.{Moment, Shear}
 use Rattle.sheet.proofs.Sums.{out_fits, out-summed, small_set}
 use Rattle.sheet.proofs.rows.Rows.take_out.Goals as goal
 
-pub overflow-sub-self : goal.overflow-sub-self
-overflow-sub-self c =
+pub overflow_sub-self : goal.overflow_sub-self
+overflow_sub-self c =
     let s = c.args.self.now in
-    out_fits Moment s.slots s.long s.small s.moments s.moments_summed c.in-Some.row c.of-kind.result c.of-kind.ensures.value c.of-kind.ensures.bound
+    out_fits Moment s.slots s.long s.small s.moments s.moments_summed c.in-Some.row c.of_kind.result c.of_kind.ensures.value c.of_kind.ensures.bound
     c.index-load.result c.index-load.ensures
 
-pub overflow-sub-self-in-Some : goal.overflow-sub-self-in-Some
-overflow-sub-self-in-Some c =
+pub overflow_sub-self-in-Some : goal.overflow_sub-self-in-Some
+overflow_sub-self-in-Some c =
     let s = c.args.self.now in
-    out_fits Shear s.slots s.long s.small s.shears s.shears_summed c.in-Some.row c.of-kind-in-Some.result c.of-kind-in-Some.ensures.value c.of-kind-in-Some.ensures.bound
+    out_fits Shear s.slots s.long s.small s.shears s.shears_summed c.in-Some.row c.of_kind-in-Some.result c.of_kind-in-Some.ensures.value c.of_kind-in-Some.ensures.bound
     c.index-load.result c.index-load.ensures
 
-pub invariant-of-self : goal.invariant-of-self
-invariant-of-self c =
+pub invariant_of-self : goal.invariant_of-self
+invariant_of-self c =
     let s = c.args.self.now in
     let xs = s.slots in
     let row = c.in-Some.row in
     let h : c.args.slot < length xs = omega (arith, s.long) in
-    let m = c.of-kind.ensures in
-    let v = c.of-kind-in-Some.ensures in (
+    let m = c.of_kind.ensures in
+    let v = c.of_kind-in-Some.ensures in (
       length-set xs c.args.slot None ∙ s.long,
       (
         small_set xs c.args.slot None h s.small (omega arith),
         (
-          out-summed Moment xs s.long s.small s.moments s.moments_summed row c.of-kind.result m.value m.bound c.index-load.result c.index-load.ensures c.args.slot h (sym c.in-Some.ensures),
+          out-summed Moment xs s.long s.small s.moments s.moments_summed row c.of_kind.result m.value m.bound c.index-load.result c.index-load.ensures c.args.slot h (sym c.in-Some.ensures),
           (
-            out-summed Shear xs s.long s.small s.shears s.shears_summed row c.of-kind-in-Some.result v.value v.bound c.index-load.result c.index-load.ensures c.args.slot h (sym c.in-Some.ensures),
+            out-summed Shear xs s.long s.small s.shears s.shears_summed row c.of_kind-in-Some.result v.value v.bound c.index-load.result c.index-load.ensures c.args.slot h (sym c.in-Some.ensures),
             tt,
           ),
         ),
       ),
     )
 
-pub returns-in-default : goal.returns-in-default
-returns-in-default c =
+pub returns-in_default : goal.returns-in_default
+returns-in_default c =
     let xs = c.args.self.now.slots in
-    sym (set-get_or xs c.args.slot None) ∙ ap (set xs c.args.slot) (sym c.in-default.ensures)
+    sym (set-get_or xs c.args.slot None) ∙ ap (set xs c.args.slot) (sym c.in_default.ensures)
