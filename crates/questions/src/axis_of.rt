@@ -14,8 +14,8 @@ pub fn axis<P: Part>(
     part: &P,
     sense: Sense,
 ) -> Result<(u16, u64, u64), QuestionFault>
-    ensures answer { AxisAnswer sense (with_plates (ledger sheet.now) (pushes part.now)) (with_plates (ledger sheet.now) (pulls part.now)) result }
-    ensures only { OnlyAxis sense (with_plates (ledger sheet.now) (pushes part.now)) (with_plates (ledger sheet.now) (pulls part.now)) result }
+    ensures answer { AxisAnswer sense (with_plates (ledger sheet.now) (P.pushes part.now)) (with_plates (ledger sheet.now) (P.pulls part.now)) result }
+    ensures only { OnlyAxis sense (with_plates (ledger sheet.now) (P.pushes part.now)) (with_plates (ledger sheet.now) (P.pulls part.now)) result }
 {
     plastic_axis(sheet, part, sense)
 }

@@ -15,7 +15,7 @@ use sheet::{Plate, Role, Sheet};
 // The bending resistance; refused with 11 where the smallest plastic moment is 0, then with 12
 // where a flange or the web is missing.
 pub fn resistance<P: Part>(sheet: &Sheet, part: &P) -> Result<Resistance, QuestionFault>
-    ensures answer { ResistanceAnswer (ledger sheet.now) (pushes part.now) (pulls part.now) result }
+    ensures answer { ResistanceAnswer (ledger sheet.now) (P.pushes part.now) (P.pulls part.now) result }
     ensures small { IfOk result (λ x. (x.mp ≤ 2 ^ 38) × (x.mn ≤ 2 ^ 38)) }
 {
     let (level, moment, _) = axis(sheet, part, Sense::Sagging)?;
@@ -37,7 +37,7 @@ pub fn bending<P: Part>(
     part: &P,
     state: &LimitState,
 ) -> Result<Bending, QuestionFault>
-    ensures { BendingAnswer (ledger sheet.now) (pushes part.now) (pulls part.now) state.now.factors result }
+    ensures { BendingAnswer (ledger sheet.now) (P.pushes part.now) (P.pulls part.now) state.now.factors result }
 {
     let found = resistance(sheet, part)?;
     let verdict = found.verdict(sheet, state);

@@ -12,7 +12,7 @@ use sheet::Sheet;
 // The resistance of one stud, and how many carry over the lesser of the part's total push and the
 // plates' total pull; refused with 14.
 pub fn studs<P: Part>(sheet: &Sheet, part: &P, stud: Stud) -> Result<StudAnswer, QuestionFault>
-    ensures { AnswersStuds (ledger sheet.now) (pushes part.now) stud result }
+    ensures { AnswersStuds (ledger sheet.now) (P.pushes part.now) stud result }
 {
     if !stud.is_lawful() {
         return Err(QuestionFault::StudLimits);

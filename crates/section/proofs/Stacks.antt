@@ -1,5 +1,5 @@
 -- Blocks added one by one, in the order of a list.
-use Rattle.std.proofs.Common.{◌≡◌, ℕ, zero, suc, ◌+◌, ◌*◌, ◌^◌, ◌<◌, ◌≤◌, min, max, List, [], ◌∷◌, ◌++◌, length, get_or, take, set, sym, ap, ◌∙◌, le_of_suc-le-suc, not-suc-le-zero, arith}
+use Rattle.std.proofs.Common.{◌≡◌, ℕ, zero, suc, ◌+◌, ◌*◌, ◌^◌, ◌<◌, ◌≤◌, min, max, List, [], ◌∷◌, ◌++◌, length, get_or, take, set, ap, ◌∙◌, le_of_suc-le-suc, not-suc-le-zero, arith}
 use mathlib.Core.Path.{fun_ext}
 use Rattle.std.proofs.lemmas.List.{take_more}
 use Rattle.section.specs.declared.sense.Sense.{Sense}
@@ -12,35 +12,30 @@ use Rattle.section.specs.BlockLaws.{stacked-sum}
 use Rattle.section.proofs.Together.{forces_both, forces_small, forces_alike, resultants_both, resultants_small, depth_both}
 
 -- one block more
-pub stacked_push : (bs : List Block) (b : Block) (i : ℕ) → stacked (bs ++ (b ∷ [])) i ≡ stacked bs i + strips b i
+stacked_push : (bs : List Block) (b : Block) (i : ℕ) → stacked (bs ++ (b ∷ [])) i ≡ stacked bs i + strips b i
 stacked_push [] b i = omega arith
 stacked_push (x ∷ xs) b i = let r = stacked_push xs b i in omega arith
 
-pub total_push : (bs : List Block) (b : Block) → stacked_total (bs ++ (b ∷ [])) ≡ stacked_total bs + b.strength * b.height
-total_push [] b = omega arith
-total_push (x ∷ xs) b = let r = total_push xs b in omega arith
-
-pub stacked_next : (bs : List Block) (i : ℕ) (d : Block) → i < length bs → d ≡ get_or bs i d → stacked (take (i + 1) bs) ≡ (stacked (take i bs) ⊕ strips d)
-stacked_next bs i d l e =
-    ap stacked (take_more bs i d l) ∙ fun_ext (λ j. stacked_push (take i bs) (get_or bs i d) j) ∙ ap (λ (x : Block). stacked (take i bs) ⊕ strips x) (sym e)
+pub stacked_next : (bs : List Block) (i : ℕ) (d : Block) → i < length bs → stacked (take (i + 1) bs) ≡ (stacked (take i bs) ⊕ strips (get_or bs i d))
+stacked_next bs i d l = ap stacked (take_more bs i d l) ∙ fun_ext (λ j. stacked_push (take i bs) (get_or bs i d) j)
 
 pub total-take : (n : ℕ) (bs : List Block) → stacked_total (take n bs) ≤ stacked_total bs
 total-take zero bs = omega arith
 total-take (suc n) [] = omega arith
 total-take (suc n) (b ∷ bs) = let r = total-take n bs in omega arith
 
-pub resultants_next : (s : Sense) (bs : List Block) (i : ℕ) (d : Block) (k above below moment : ℕ) (r : Resultants) → i < length bs → d ≡ get_or bs i d →
-    IsResultants s (stacked (take i bs)) (stacked (take i bs)) k (record { above = above; below = below; moment = moment }) → IsResultants s (strips d) (strips d) k r →
+pub resultants_next : (s : Sense) (bs : List Block) (i : ℕ) (d : Block) (k above below moment : ℕ) (r : Resultants) → i < length bs →
+    IsResultants s (stacked (take i bs)) (stacked (take i bs)) k (record { above = above; below = below; moment = moment }) → IsResultants s (strips (get_or bs i d)) (strips (get_or bs i d)) k r →
     IsResultants s (stacked (take (i + 1) bs)) (stacked (take (i + 1) bs)) k (record { above = above + r.above; below = below + r.below; moment = moment + r.moment })
-resultants_next s bs i d k above below moment r l e x y =
-    rw (stacked_next bs i d l e)
-    (resultants_both s (stacked (take i bs)) (strips d) (stacked (take i bs)) (strips d) k (record { above = above; below = below; moment = moment }) r x y)
+resultants_next s bs i d k above below moment r l x y =
+    rw (stacked_next bs i d l)
+    (resultants_both s (stacked (take i bs)) (strips (get_or bs i d)) (stacked (take i bs)) (strips (get_or bs i d)) k (record { above = above; below = below; moment = moment }) r x y)
 
-pub forces_next : (s : Sense) (bs : List Block) (i : ℕ) (d : Block) (k above below a b : ℕ) → i < length bs → d ≡ get_or bs i d → IsForces s (stacked (take i bs)) (stacked (take i bs)) k (above, below) →
-    a ≡ force_above (strips d) k → b ≡ force_below 4096 (strips d) k → IsForces s (stacked (take (i + 1) bs)) (stacked (take (i + 1) bs)) k (above + a, below + b)
-forces_next s bs i d k above below a b l e x p q =
-    rw (stacked_next bs i d l e)
-    (forces_both s (stacked (take i bs)) (strips d) (stacked (take i bs)) (strips d) k (above, below) (a, b) x (forces_alike s (strips d) k a b p q))
+pub forces_next : (s : Sense) (bs : List Block) (i : ℕ) (d : Block) (k above below a b : ℕ) → i < length bs → IsForces s (stacked (take i bs)) (stacked (take i bs)) k (above, below) →
+    a ≡ force_above (strips (get_or bs i d)) k → b ≡ force_below 4096 (strips (get_or bs i d)) k → IsForces s (stacked (take (i + 1) bs)) (stacked (take (i + 1) bs)) k (above + a, below + b)
+forces_next s bs i d k above below a b l x p q =
+    rw (stacked_next bs i d l)
+    (forces_both s (stacked (take i bs)) (strips (get_or bs i d)) (stacked (take i bs)) (strips (get_or bs i d)) k (above, below) (a, b) x (forces_alike s (strips (get_or bs i d)) k a b p q))
 
 pub stack_small : (s : Sense) (bs : List Block) (i k above below moment : ℕ) → stacked_total bs ≤ 2 ^ 36 →
     IsResultants s (stacked (take i bs)) (stacked (take i bs)) (min k 4096) (record { above = above; below = below; moment = moment }) →
@@ -55,9 +50,9 @@ stack_forces_small s bs i k above below light h =
     let l : sum_to (stacked (take i bs)) 4096 ≤ 2 ^ 36 = omega (arith, stacked-sum (take i bs), total-take i bs) in
     forces_small s (stacked (take i bs)) (stacked (take i bs)) k (above, below) l l h
 
-pub depth_next : (bs : List Block) (i : ℕ) (d : Block) (m n : ℕ) → i < length bs → d ≡ get_or bs i d → IsDepth (stacked (take i bs)) (stacked (take i bs)) m → IsDepth (strips d) (strips d) n →
+pub depth_next : (bs : List Block) (i : ℕ) (d : Block) (m n : ℕ) → i < length bs → IsDepth (stacked (take i bs)) (stacked (take i bs)) m → IsDepth (strips (get_or bs i d)) (strips (get_or bs i d)) n →
     IsDepth (stacked (take (i + 1) bs)) (stacked (take (i + 1) bs)) (max m n)
-depth_next bs i d m n l e x y = rw (stacked_next bs i d l e) (depth_both (stacked (take i bs)) (strips d) (stacked (take i bs)) (strips d) m n x y)
+depth_next bs i d m n l x y = rw (stacked_next bs i d l) (depth_both (stacked (take i bs)) (strips (get_or bs i d)) (stacked (take i bs)) (strips (get_or bs i d)) m n x y)
 
 -- one block put in another's place
 pub stacked-set : (bs : List Block) (n : ℕ) (b d : Block) (i : ℕ) → n < length bs → stacked (set bs n b) i + strips (get_or bs n d) i ≡ stacked bs i + strips b i

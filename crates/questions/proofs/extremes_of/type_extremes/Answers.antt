@@ -29,8 +29,8 @@ returns c =
     let h = at_most r l in
     let f : SFits w64 (times r.0 s) = product_fits r.0 s h.0 c.requires in
     let g : SFits w64 (times r.1 s) = product_fits r.1 s h.1 c.requires in
-    let o : SFits w64 c.min.result = record { sfits = c.min.type-inv } in
-    let p : SFits w64 c.max.result = record { sfits = c.max.type-inv } in
+    let o : SFits w64 c.min.result = record { sfits = c.min.type_inv } in
+    let p : SFits w64 c.max.result = record { sfits = c.max.type_inv } in
     let lo : c.min.result ≡ least r s = simp (factor r.0 h.0, factor r.1 h.1, to_z-of_z c.ranges.sum, to_z-of_z f, to_z-of_z g) at c.min.ensures.value in
     let hi : c.max.result ≡ greatest r s = simp (factor r.0 h.0, factor r.1 h.1, to_z-of_z c.ranges.sum, to_z-of_z f, to_z-of_z g) at c.max.ensures.value in
     simp (to_z-of_z o, to_z-of_z p) (record {

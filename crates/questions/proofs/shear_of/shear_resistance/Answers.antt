@@ -9,11 +9,11 @@ use Rattle.questions.proofs.shear_of.shear_resistance.Goals as goal
 pub buckling-requires : goal.buckling-requires
 buckling-requires c =
     let s = c.args.sheet.now in
-    let e : standing Web s.plates.slots ≡ Some c.in_ok-web.web = sym c.with_role.ensures ∙ c.in_ok-web.ensures.ok-part in
+    let e : standing Web s.plates.slots ≡ Some c.in_ok-web.web = sym c.with_role.ensures ∙ c.in_ok-web.ensures.ok_part in
     (web_fits s.plates.slots s.within c.in_ok-web.web e).some
 
 pub web_resistance-requires : goal.web_resistance-requires
 web_resistance-requires c =
     let s = c.args.sheet.now in
-    let e : standing Web s.plates.slots ≡ Some c.in_ok-web.web = sym c.with_role.ensures ∙ c.in_ok-web.ensures.ok-part in
+    let e : standing Web s.plates.slots ≡ Some c.in_ok-web.web = sym c.with_role.ensures ∙ c.in_ok-web.ensures.ok_part in
     record { fits = web_fits s.plates.slots s.within c.in_ok-web.web e; small = c.in_ok-k.ensures.1 }

@@ -11,7 +11,7 @@ pub loop-bar-preserved : goal.loop-bar-preserved
 loop-bar-preserved c =
     let d = c.args.self.now in
     let l : c.loop-bar.bar-index < length d.bars = omega (arith, d.long) in
-    simp c.max-depth.ensures (depth_next d.bars c.loop-bar.bar-index c.bar-item.result _ _ l c.bar-item.is c.loop-bar.invariant c.depth.ensures)
+    simp c.max-depth.ensures (depth_next d.bars c.loop-bar.bar-index c.bar-item.result _ _ l c.loop-bar.invariant c.depth.ensures)
 
 pub returns : goal.returns
 returns c =

@@ -12,7 +12,7 @@ pub overflow_add-above : goal.overflow_add-above
 overflow_add-above c =
     let d = c.args.self.now in
     let l : c.loop-bar.bar-index < length d.bars = omega (arith, d.long) in
-    let t = forces_next Sagging d.bars c.loop-bar.bar-index c.bar-item.result _ c.loop-bar.above c.loop-bar.below _ _ l c.bar-item.is (c.loop-bar.invariant Sagging) c.force_above-above.ensures refl in
+    let t = forces_next Sagging d.bars c.loop-bar.bar-index c.bar-item.result _ c.loop-bar.above c.loop-bar.below _ _ l (c.loop-bar.invariant Sagging) c.force_above-above.ensures refl in
     let b = stack_forces_small Sagging d.bars _ c.args.level _ _ (omega (arith, d.light)) t in
     omega arith
 
@@ -20,7 +20,7 @@ pub overflow_add-below : goal.overflow_add-below
 overflow_add-below c =
     let d = c.args.self.now in
     let l : c.loop-bar.bar-index < length d.bars = omega (arith, d.long) in
-    let t = forces_next Sagging d.bars c.loop-bar.bar-index c.bar-item.result _ c.loop-bar.above c.loop-bar.below _ _ l c.bar-item.is (c.loop-bar.invariant Sagging) c.force_above-above.ensures c.force_below-below.ensures in
+    let t = forces_next Sagging d.bars c.loop-bar.bar-index c.bar-item.result _ c.loop-bar.above c.loop-bar.below _ _ l (c.loop-bar.invariant Sagging) c.force_above-above.ensures c.force_below-below.ensures in
     let b = stack_forces_small Sagging d.bars _ c.args.level _ _ (omega (arith, d.light)) t in
     omega arith
 
@@ -28,7 +28,7 @@ pub loop-bar-preserved : goal.loop-bar-preserved
 loop-bar-preserved c sense =
     let d = c.args.self.now in
     let l : c.loop-bar.bar-index < length d.bars = omega (arith, d.long) in
-    forces_next sense d.bars c.loop-bar.bar-index c.bar-item.result _ c.loop-bar.above c.loop-bar.below _ _ l c.bar-item.is (c.loop-bar.invariant sense) c.force_above-above.ensures c.force_below-below.ensures
+    forces_next sense d.bars c.loop-bar.bar-index c.bar-item.result _ c.loop-bar.above c.loop-bar.below _ _ l (c.loop-bar.invariant sense) c.force_above-above.ensures c.force_below-below.ensures
 
 pub returns : goal.returns
 returns c sense =

@@ -12,7 +12,7 @@ pub overflow_add-above : goal.overflow_add-above
 overflow_add-above c =
     let d = c.args.self.now in
     let l : c.loop-bar.bar-index < length d.bars = omega (arith, d.long) in
-    let t = resultants_next Sagging d.bars c.loop-bar.bar-index c.bar-item.result _ c.loop-bar.above c.loop-bar.below c.loop-bar.moment c.resultants-at.result l c.bar-item.is (c.loop-bar.invariant Sagging) (c.resultants-at.ensures Sagging) in
+    let t = resultants_next Sagging d.bars c.loop-bar.bar-index c.bar-item.result _ c.loop-bar.above c.loop-bar.below c.loop-bar.moment c.resultants-at.result l (c.loop-bar.invariant Sagging) (c.resultants-at.ensures Sagging) in
     let b = stack_small Sagging d.bars _ c.args.level _ _ _ (omega (arith, d.light)) t in
     omega arith
 
@@ -20,7 +20,7 @@ pub overflow_add-below : goal.overflow_add-below
 overflow_add-below c =
     let d = c.args.self.now in
     let l : c.loop-bar.bar-index < length d.bars = omega (arith, d.long) in
-    let t = resultants_next Sagging d.bars c.loop-bar.bar-index c.bar-item.result _ c.loop-bar.above c.loop-bar.below c.loop-bar.moment c.resultants-at.result l c.bar-item.is (c.loop-bar.invariant Sagging) (c.resultants-at.ensures Sagging) in
+    let t = resultants_next Sagging d.bars c.loop-bar.bar-index c.bar-item.result _ c.loop-bar.above c.loop-bar.below c.loop-bar.moment c.resultants-at.result l (c.loop-bar.invariant Sagging) (c.resultants-at.ensures Sagging) in
     let b = stack_small Sagging d.bars _ c.args.level _ _ _ (omega (arith, d.light)) t in
     omega arith
 
@@ -28,7 +28,7 @@ pub overflow_add-moment : goal.overflow_add-moment
 overflow_add-moment c =
     let d = c.args.self.now in
     let l : c.loop-bar.bar-index < length d.bars = omega (arith, d.long) in
-    let t = resultants_next Sagging d.bars c.loop-bar.bar-index c.bar-item.result _ c.loop-bar.above c.loop-bar.below c.loop-bar.moment c.resultants-at.result l c.bar-item.is (c.loop-bar.invariant Sagging) (c.resultants-at.ensures Sagging) in
+    let t = resultants_next Sagging d.bars c.loop-bar.bar-index c.bar-item.result _ c.loop-bar.above c.loop-bar.below c.loop-bar.moment c.resultants-at.result l (c.loop-bar.invariant Sagging) (c.resultants-at.ensures Sagging) in
     let b = stack_small Sagging d.bars _ c.args.level _ _ _ (omega (arith, d.light)) t in
     omega arith
 
@@ -36,7 +36,7 @@ pub loop-bar-preserved : goal.loop-bar-preserved
 loop-bar-preserved c sense =
     let d = c.args.self.now in
     let l : c.loop-bar.bar-index < length d.bars = omega (arith, d.long) in
-    resultants_next sense d.bars c.loop-bar.bar-index c.bar-item.result _ c.loop-bar.above c.loop-bar.below c.loop-bar.moment c.resultants-at.result l c.bar-item.is (c.loop-bar.invariant sense) (c.resultants-at.ensures sense)
+    resultants_next sense d.bars c.loop-bar.bar-index c.bar-item.result _ c.loop-bar.above c.loop-bar.below c.loop-bar.moment c.resultants-at.result l (c.loop-bar.invariant sense) (c.resultants-at.ensures sense)
 
 pub returns : goal.returns
 returns c sense =

@@ -53,11 +53,11 @@ pub loop-i-preserved : goal.loop-i-preserved
 loop-i-preserved c =
     let s = c.args.self.now in
     elim c.if-strip-level.branch [
-      | then-strip-level w ↦ simp (w.above_is, w.below_is, w.moment_is) (upper_turn s.top s.fy s.breadths.now c.min-level.result c.loop-i.i _ _ _ c.loop-i.invariant w.if-strip-level.true)
-      | else-strip-level w ↦ simp (w.above_is, w.below_is, w.moment_is) (lower_turn s.top s.fy s.breadths.now c.min-level.result c.loop-i.i _ _ _ c.loop-i.invariant w.if-strip-level.false)
+      | then-strip-level w ↦ simp (w.above-is, w.below-is, w.moment-is) (upper_turn s.top s.fy s.breadths.now c.min-level.result c.loop-i.i _ _ _ c.loop-i.invariant w.if-strip-level.true)
+      | else-strip-level w ↦ simp (w.above-is, w.below-is, w.moment-is) (lower_turn s.top s.fy s.breadths.now c.min-level.result c.loop-i.i _ _ _ c.loop-i.invariant w.if-strip-level.false)
     ]
 
 pub returns : goal.returns
 returns c =
     let s = c.args.self.now in
-    rw (← c.min-level.ensures) (finish s.top s.fy s.breadths.now c.args.-sense c.min-level.result c.loop-i.i _ _ _ s.inside (omega arith) (omega arith) (omega arith) (omega arith) c.loop-i.invariant)
+    rw (← c.min-level.ensures) (finish s.top s.fy s.breadths.now c.args._sense c.min-level.result c.loop-i.i _ _ _ s.inside (omega arith) (omega arith) (omega arith) (omega arith) c.loop-i.invariant)

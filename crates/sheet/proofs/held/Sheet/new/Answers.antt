@@ -8,4 +8,8 @@ use Rattle.sheet.proofs.held.Sheet.new.Goals as goal
 pub invariant_of-result : goal.invariant_of-result
 invariant_of-result c =
     let e = sym c.new.ensures in
-    (subst Light e (light_empties 24), (subst Within e (within-empties 24), (subst Once e (once_empties 24), tt)))
+    record {
+      light = subst Light e (light_empties 24);
+      within = subst Within e (within-empties 24);
+      once = subst Once e (once_empties 24);
+    }

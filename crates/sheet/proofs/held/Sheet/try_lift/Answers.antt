@@ -11,4 +11,8 @@ invariant_of-self c =
     let xs = s.plates.slots in
     let h : c.args.slot < length xs = omega (arith, s.plates.long) in
     let e = sym c.take_out.ensures in
-    (subst Light e (light_lift xs c.args.slot h s.light), (subst Within e (within-lift xs c.args.slot h s.within), (subst Once e (once_lift xs c.args.slot h s.once), tt)))
+    record {
+      light = subst Light e (light_lift xs c.args.slot h s.light);
+      within = subst Within e (within-lift xs c.args.slot h s.within);
+      once = subst Once e (once_lift xs c.args.slot h s.once);
+    }

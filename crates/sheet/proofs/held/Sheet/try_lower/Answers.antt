@@ -10,4 +10,8 @@ invariant_of-self c =
     let s = c.args.self.now in
     let xs = s.plates.slots in
     let e = sym c.lower.ensures in
-    (subst Light e (light_lower c.args.n xs s.light), (subst Within e (within-lower c.args.n xs s.within (sym c.if-would_pass.ensures)), (subst Once e (once_lowered c.args.n xs s.once), tt)))
+    record {
+      light = subst Light e (light_lower c.args.n xs s.light);
+      within = subst Within e (within-lower c.args.n xs s.within (sym c.if-would_pass.ensures));
+      once = subst Once e (once_lowered c.args.n xs s.once);
+    }

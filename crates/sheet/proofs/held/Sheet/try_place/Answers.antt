@@ -32,10 +32,9 @@ invariant_of-self c =
     let h : slot < length xs = omega (arith, s.plates.long) in
     let lawful = sym c.if-not-is_lawful.ensures in
     let e = sym (c.put.ensures ∙ ap (λ (q : Plate). set xs slot (Some q)) is) in
-    let apart = sym (c.if-has_role.ensures ∙ ap (λ (q : Plate). stands q.role xs) is) in (
-      subst Light e (light_put xs slot p h lawful (sym c.if-is_full.ensures) (omega (arith, c.total_force.ensures, c.force.ensures, ap force is, c.if-total_force-force-gt-STRONGEST.false))),
-      (
-        subst Within e (within_put xs slot p h lawful s.within),
-        (subst Once e (once_put xs slot (plate_of p) h s.once apart), tt),
-      ),
-    )
+    let apart = sym (c.if-has_role.ensures ∙ ap (λ (q : Plate). stands q.role xs) is) in
+    record {
+      light = subst Light e (light_put xs slot p h lawful (sym c.if-is_full.ensures) (omega (arith, c.total_force.ensures, c.force.ensures, ap force is, c.if-total_force-force-gt-STRONGEST.false)));
+      within = subst Within e (within_put xs slot p h lawful s.within);
+      once = subst Once e (once_put xs slot (plate_of p) h s.once apart);
+    }

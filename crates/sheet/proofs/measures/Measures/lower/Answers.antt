@@ -9,7 +9,11 @@ invariant_of-self c =
     let s = c.args.self.now in
     let f = λ (t : ℕ). min (t + c.args.n) (2 ^ 16 - 1) in
     let all = over_all f s.tops c.loop-top.top-items c.loop-top.top-index c.loop-top.invariant (omega (arith, s.topped)) in
-    (ap length all ∙ length-map s.tops f ∙ s.topped, (s.sized, (s.strong, tt)))
+    record {
+      topped = ap length all ∙ length-map s.tops f ∙ s.topped;
+      sized = s.sized;
+      strong = s.strong;
+    }
 
 pub loop-top-preserved : goal.loop-top-preserved
 loop-top-preserved c =

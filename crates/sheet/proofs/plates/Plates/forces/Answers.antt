@@ -14,14 +14,14 @@ overflow_add-above c =
     let p = c.args.self.now in
     let i = c.loop-slot.slot in
     let h : i < length p.slots = omega (arith, p.long) in
-    omega (arith, c.loop-slot.invariant, c.force_above-above.ensures, above_measured p.slots i (min c.args.level 4096) h c.args.level _ _ _ refl (c.requires.inside i) (p.decreases i), above_front p.slots c.requires.inside (i + 1) c.args.level, c.requires.light)
+    omega (arith, c.loop-slot.invariant, c.force_above-above.ensures, above_measured p.slots i (min c.args.level 4096) h c.args.level _ _ _ refl (c.requires.inside i) (p.measured i), above_front p.slots c.requires.inside (i + 1) c.args.level, c.requires.light)
 
 pub loop-slot-preserved : goal.loop-slot-preserved
 loop-slot-preserved c =
     let p = c.args.self.now in
     let i = c.loop-slot.slot in
     let h : i < length p.slots = omega (arith, p.long) in
-    omega (arith, c.loop-slot.invariant, c.force_above-above.ensures, above_measured p.slots i (min c.args.level 4096) h c.args.level _ _ _ refl (c.requires.inside i) (p.decreases i))
+    omega (arith, c.loop-slot.invariant, c.force_above-above.ensures, above_measured p.slots i (min c.args.level 4096) h c.args.level _ _ _ refl (c.requires.inside i) (p.measured i))
 
 pub overflow_sub-result : goal.overflow_sub-result
 overflow_sub-result c = omega (arith, c.loop-slot.invariant, c.total_force.ensures, above_front c.args.self.now.slots c.requires.inside c.loop-slot.slot c.args.level)

@@ -17,7 +17,12 @@ invariant_of-self c =
     let long = c.args.self.now.long in
     let all = over_all f slots c.loop-slot.slot-items c.loop-slot.slot-index c.loop-slot.invariant (omega (arith, long)) in
     let m = c.args.self.now.measures in
-    (ap length all ∙ length-map slots f ∙ long, (c.args.self.now.totalled ∙ sym (ap total_force all ∙ total_force_kept c.args.n slots), (make_note c.args.self.now.roles c.loop-slot.slot-items (λ r. read_note c.args.self.now.roles slots c.args.self.now.placed r ∙ sym (ap (slot_with r) all ∙ slot-lowered c.args.n r slots)), (fits_same _ _ _ _ _ _ _ _ all c.lower.ensures.tops c.lower.ensures.heights c.lower.ensures.strengths (fits_lower c.args.n slots m.tops m.heights m.strengths (omega (arith, long, m.topped)) c.requires c.args.self.now.measured), tt))))
+    record {
+      long = ap length all ∙ length-map slots f ∙ long;
+      totalled = c.args.self.now.totalled ∙ sym (ap total_force all ∙ total_force_kept c.args.n slots);
+      placed = make_note c.args.self.now.roles c.loop-slot.slot-items (λ r. read_note c.args.self.now.roles slots c.args.self.now.placed r ∙ sym (ap (slot_with r) all ∙ slot-lowered c.args.n r slots));
+      measured = fits_same _ _ _ _ _ _ _ _ all c.lower.ensures.tops c.lower.ensures.heights c.lower.ensures.strengths (fits_lower c.args.n slots m.tops m.heights m.strengths (omega (arith, long, m.topped)) c.requires c.args.self.now.measured);
+    }
 
 pub overflow_add-plate : goal.overflow_add-plate
 overflow_add-plate c =
@@ -37,8 +42,8 @@ loop-slot-preserved c =
     let now' = c.loop-slot.slot-items in
     let h : i < length slots = omega (arith, c.args.self.now.long) in
     elim c.match-slot.branch [
-      | in-Some w ↦ w.slot·items-is ∙ over_step f slots now' i c.loop-slot.invariant None (Some w.in-Some.plate) h w.in-Some.is
-      | in_default w ↦ rw w.in_default.is at w.slot·items-is ∙ over_step f slots now' i c.loop-slot.invariant None None h w.in_default.is
+      | in-Some w ↦ w.slot-items-is ∙ over_step f slots now' i c.loop-slot.invariant None (Some w.in-Some.plate) h w.in-Some.is
+      | in_default w ↦ rw w.in_default.is at w.slot-items-is ∙ over_step f slots now' i c.loop-slot.invariant None None h w.in_default.is
     ]
 
 pub returns : goal.returns

@@ -15,7 +15,10 @@ invariant_of-self c =
     let slot = c.args.slot in
     let p = c.args.plate in
     let h : slot < length xs = omega (arith, s.long) in
-    let m = s.measures in (
-      length-set xs slot (Some p) ∙ s.long,
-      (omega (arith, s.totalled, c.force.ensures, sum_by-set force_in xs slot (Some p) None h, force_none (content xs slot) c.requires.empty), (make_note _ (set xs slot (Some p)) (λ r. c.note.ensures r ∙ ap (cond (clash p.role r) (Some slot)) (read_note s.roles xs s.placed r) ∙ slot_put xs slot p h c.requires.empty c.requires.apart r), (fits_same _ _ _ _ _ _ _ _ refl c.note-2.ensures.tops c.note-2.ensures.heights c.note-2.ensures.strengths (fits_put xs m.tops m.heights m.strengths slot p h (omega (arith, m.topped)) (omega (arith, m.sized)) (omega (arith, m.strong)) s.decreases), tt))),
-    )
+    let m = s.measures in
+    record {
+      long = length-set xs slot (Some p) ∙ s.long;
+      totalled = omega (arith, s.totalled, c.force.ensures, sum_by-set force_in xs slot (Some p) None h, force_none (content xs slot) c.requires.empty);
+      placed = make_note _ (set xs slot (Some p)) (λ r. c.note.ensures r ∙ ap (cond (clash p.role r) (Some slot)) (read_note s.roles xs s.placed r) ∙ slot_put xs slot p h c.requires.empty c.requires.apart r);
+      measured = fits_same _ _ _ _ _ _ _ _ refl c.note-2.ensures.tops c.note-2.ensures.heights c.note-2.ensures.strengths (fits_put xs m.tops m.heights m.strengths slot p h (omega (arith, m.topped)) (omega (arith, m.sized)) (omega (arith, m.strong)) s.measured);
+    }

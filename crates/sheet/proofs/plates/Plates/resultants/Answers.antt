@@ -46,10 +46,10 @@ loop-slot-preserved c =
     let h : i < length xs = omega (arith, c.args.self.now.long) in
     elim c.match-slot.branch [
       | in-Some w ↦ λ s.
-          rw (w.above_is, w.below_is, w.moment_is)
+          rw (w.above-is, w.below-is, w.moment-is)
           (resultants_next xs i h w.in-Some.plate w.in-Some.is s (min c.args.level 4096) _ w.resultants-one.result (c.loop-slot.invariant s)
           (moved_level _ _ _ _ c.min-at.ensures w.resultants-one.ensures s))
-      | in_default w ↦ λ s. rw (w.above_is, w.below_is, w.moment_is) (rw (next_none xs i h w.in_default.is) (c.loop-slot.invariant s))
+      | in_default w ↦ λ s. rw (w.above-is, w.below-is, w.moment-is) (rw (next_none xs i h w.in_default.is) (c.loop-slot.invariant s))
     ]
 
 pub returns : goal.returns

@@ -22,10 +22,13 @@ invariant_of-self c =
     let xs = s.slots in
     let slot = c.args.slot in
     let h : slot < length xs = omega (arith, s.long) in
-    let m = s.measures in (
-      length-set xs slot None ∙ s.long,
-      (omega (arith, s.totalled, c.force.ensures, sum_by-set force_in xs slot None None h, ap force_in c.in-Some.ensures), (make_note _ (set xs slot None) (λ r. c.note.ensures r ∙ ap (cond (clash p.role r) None) (read_note s.roles xs s.placed r) ∙ slot_out xs slot p h (sym c.in-Some.ensures) c.requires.once r), (fits_same _ _ _ _ _ _ _ _ refl c.clear.ensures.tops c.clear.ensures.heights c.clear.ensures.strengths (fits_out xs m.tops m.heights m.strengths slot h (omega (arith, m.sized)) s.decreases), tt))),
-    )
+    let m = s.measures in
+    record {
+      long = length-set xs slot None ∙ s.long;
+      totalled = omega (arith, s.totalled, c.force.ensures, sum_by-set force_in xs slot None None h, ap force_in c.in-Some.ensures);
+      placed = make_note _ (set xs slot None) (λ r. c.note.ensures r ∙ ap (cond (clash p.role r) None) (read_note s.roles xs s.placed r) ∙ slot_out xs slot p h (sym c.in-Some.ensures) c.requires.once r);
+      measured = fits_same _ _ _ _ _ _ _ _ refl c.clear.ensures.tops c.clear.ensures.heights c.clear.ensures.strengths (fits_out xs m.tops m.heights m.strengths slot h (omega (arith, m.sized)) s.measured);
+    }
 
 pub returns-in_default : goal.returns-in_default
 returns-in_default c =

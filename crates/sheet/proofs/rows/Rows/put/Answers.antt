@@ -23,16 +23,10 @@ invariant_of-self c =
     let row = c.args.row in
     let h : c.args.slot < length xs = omega (arith, s.long) in
     let m = c.of_kind.ensures in
-    let v = c.of_kind-2.ensures in (
-      length-set xs c.args.slot (Some row) ∙ s.long,
-      (
-        small_set xs c.args.slot (Some row) h s.small (row_small row c.of_kind.result c.of_kind-2.result m.value m.bound v.value v.bound),
-        (
-          put-summed Moment xs s.long s.small s.moments s.moments_summed row c.of_kind.result m.value m.bound c.index-load.result c.index-load.ensures c.args.slot h c.requires.empty,
-          (
-            put-summed Shear xs s.long s.small s.shears s.shears_summed row c.of_kind-2.result v.value v.bound c.index-load.result c.index-load.ensures c.args.slot h c.requires.empty,
-            tt,
-          ),
-        ),
-      ),
-    )
+    let v = c.of_kind-2.ensures in
+    record {
+      long = length-set xs c.args.slot (Some row) ∙ s.long;
+      small = small_set xs c.args.slot (Some row) h s.small (row_small row c.of_kind.result c.of_kind-2.result m.value m.bound v.value v.bound);
+      moments_summed = put-summed Moment xs s.long s.small s.moments s.moments_summed row c.of_kind.result m.value m.bound c.index-load.result c.index-load.ensures c.args.slot h c.requires.empty;
+      shears_summed = put-summed Shear xs s.long s.small s.shears s.shears_summed row c.of_kind-2.result v.value v.bound c.index-load.result c.index-load.ensures c.args.slot h c.requires.empty;
+    }

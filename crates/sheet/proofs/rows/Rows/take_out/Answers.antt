@@ -24,19 +24,13 @@ invariant_of-self c =
     let row = c.in-Some.row in
     let h : c.args.slot < length xs = omega (arith, s.long) in
     let m = c.of_kind.ensures in
-    let v = c.of_kind-in-Some.ensures in (
-      length-set xs c.args.slot None ∙ s.long,
-      (
-        small_set xs c.args.slot None h s.small (omega arith),
-        (
-          out-summed Moment xs s.long s.small s.moments s.moments_summed row c.of_kind.result m.value m.bound c.index-load.result c.index-load.ensures c.args.slot h (sym c.in-Some.ensures),
-          (
-            out-summed Shear xs s.long s.small s.shears s.shears_summed row c.of_kind-in-Some.result v.value v.bound c.index-load.result c.index-load.ensures c.args.slot h (sym c.in-Some.ensures),
-            tt,
-          ),
-        ),
-      ),
-    )
+    let v = c.of_kind-in-Some.ensures in
+    record {
+      long = length-set xs c.args.slot None ∙ s.long;
+      small = small_set xs c.args.slot None h s.small (omega arith);
+      moments_summed = out-summed Moment xs s.long s.small s.moments s.moments_summed row c.of_kind.result m.value m.bound c.index-load.result c.index-load.ensures c.args.slot h (sym c.in-Some.ensures);
+      shears_summed = out-summed Shear xs s.long s.small s.shears s.shears_summed row c.of_kind-in-Some.result v.value v.bound c.index-load.result c.index-load.ensures c.args.slot h (sym c.in-Some.ensures);
+    }
 
 pub returns-in_default : goal.returns-in_default
 returns-in_default c =
