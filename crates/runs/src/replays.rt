@@ -14,7 +14,7 @@ use std::alloc::{AllocError, Global};
 
 // Opens a new sheet and makes every call in order: the sheet, and the reply to each call.
 pub fn replay<P: Part>(heap: Global, calls: &[Call<P>]) -> Result<(Sheet, Vec<Reply>), AllocError>
-    ensures { IfOk result (λ p. Run (map (request pushes pulls) calls.now) p.1.items (ledger p.0)) }
+    ensures { IfOk result (λ p. Run (map (request P.pushes P.pulls) calls.now) p.1.items (ledger p.0)) }
 {
     let mut sheet = Sheet::new();
     let mut replies = Vec::new(heap);
@@ -28,7 +28,7 @@ pub fn replay<P: Part>(heap: Global, calls: &[Call<P>]) -> Result<(Sheet, Vec<Re
 // The same with no memory of its own: the replies go into a slice, which has to be as long as the
 // calls; else nothing is done.
 pub fn replay_into<P: Part>(calls: &[Call<P>], replies: &mut [Reply]) -> Option<Sheet>
-    ensures { RunsInto (map (request pushes pulls) calls.now) replies.old result replies.new }
+    ensures { RunsInto (map (request P.pushes P.pulls) calls.now) replies.old result replies.new }
 {
     if replies.len() != calls.len() {
         return None;
@@ -42,7 +42,7 @@ pub fn replay_into<P: Part>(calls: &[Call<P>], replies: &mut [Reply]) -> Option<
 
 // Makes one call.
 pub fn answer<P: Part>(sheet: &mut Sheet, call: &Call<P>) -> Reply
-    ensures { Brings (ledger sheet.old) (request pushes pulls call.now) result (ledger sheet.new) }
+    ensures { Brings (ledger sheet.old) (request P.pushes P.pulls call.now) result (ledger sheet.new) }
 {
     match call {
         Call::Place { slot, plate } => change(sheet.place(*slot, *plate)),
@@ -73,7 +73,7 @@ fn extremes(sheet: &Sheet, state: &LimitState, kind: EffectKind) -> Reply
 }
 
 fn axis<P: Part>(sheet: &Sheet, part: &P, sense: Sense) -> Reply
-    ensures { TellsAxis (ledger sheet.now) (pushes part.now) (pulls part.now) sense result }
+    ensures { TellsAxis (ledger sheet.now) (P.pushes part.now) (P.pulls part.now) sense result }
 {
     match questions::axis(sheet, part, sense) {
         Ok((level, moment, imbalance)) => Reply::Axis {
@@ -86,7 +86,7 @@ fn axis<P: Part>(sheet: &Sheet, part: &P, sense: Sense) -> Reply
 }
 
 fn bending<P: Part>(sheet: &Sheet, part: &P, state: &LimitState) -> Reply
-    ensures { TellsBending (ledger sheet.now) (pushes part.now) (pulls part.now) state.now.factors result }
+    ensures { TellsBending (ledger sheet.now) (P.pushes part.now) (P.pulls part.now) state.now.factors result }
 {
     match questions::bending(sheet, part, state) {
         Ok(found) => Reply::Bending(found),
