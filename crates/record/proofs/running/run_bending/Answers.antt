@@ -22,7 +22,7 @@ returns-in_err-fill c =
     let L = ledger c.args.sheet.now in
     let f = c.in_err-fill.field-0.0 in
     let was = c.in_err-fill.ensures in
-    faulted (TellsBending L c.args.state c.args.slab L) c.args.line.now c.from-residual.result (Part f) (wrapped Part f c.from-residual.result c.from-residual.ensures.1)
+    faulted (TellsBending L c.args.state c.args.slab L) c.args.line.now c.from_residual.result (Part f) (wrapped Part f c.from_residual.result c.from_residual.ensures.1)
     (was.0, was.1, refl)
 
 pub returns-in_err-found : goal.returns-in_err-found
@@ -30,9 +30,9 @@ returns-in_err-found c =
     let L = ledger c.args.sheet.now in
     let s = c.args.slab in
     let f = c.in_err-found.field-0.0 in
-    let r = c.from-residual-in_err-found.result in
+    let r = c.from_residual-in_err-found.result in
     let held = c.in_ok-fill.ensures in
-    faulted (TellsBending L c.args.state s L) c.args.line.now r (Question f) (wrapped Question f r c.from-residual-in_err-found.ensures.1)
+    faulted (TellsBending L c.args.state s L) c.args.line.now r (Question f) (wrapped Question f r c.from_residual-in_err-found.ensures.1)
     (bending_refused L c.args.state s held.0 f (of_slab s c.fill.new.self held.1 (λ p q. RefusesBending L p q f) c.in_err-found.ensures.answer))
 
 pub returns-in_err-state : goal.returns-in_err-state
@@ -40,11 +40,11 @@ returns-in_err-state c =
     let L = ledger c.args.sheet.now in
     let s = c.args.slab in
     let f = c.in_err-state.field-0.0 in
-    let r = c.from-residual-in_err-state.result in
+    let r = c.from_residual-in_err-state.result in
     let was = c.in_err-state.ensures in
     let held = c.in_ok-fill.ensures in
     let found = c.in_ok-found.found in
-    faulted (TellsBending L c.args.state s L) c.args.line.now r (Question UnknownState) (wrapped Question f r c.from-residual-in_err-state.ensures.1 ∙ ap (λ q. Err (Question q)) was.0)
+    faulted (TellsBending L c.args.state s L) c.args.line.now r (Question UnknownState) (wrapped Question f r c.from_residual-in_err-state.ensures.1 ∙ ap (λ q. Err (Question q)) was.0)
     (held.0, (was.1, (found, of_slab s c.fill.new.self held.1 (λ p q. IsResistance L p q found) c.in_ok-found.ensures.answer)), refl)
 
 pub returns : goal.returns

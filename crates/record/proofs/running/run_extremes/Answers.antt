@@ -15,7 +15,7 @@ returns-in_err-kind c =
     let L = ledger c.args.sheet.now in
     let k = effect_kind c.args.effect in
     let f = c.in_err-kind.field-0.0 in
-    faulted (AsksExtremes L c.args.state k L) c.args.line.now c.from-residual.result (Reading f) (wrapped Reading f c.from-residual.result c.from-residual.ensures.1)
+    faulted (AsksExtremes L c.args.state k L) c.args.line.now c.from_residual.result (Reading f) (wrapped Reading f c.from_residual.result c.from_residual.ensures.1)
     (at_code L c.args.state k f c.in_err-kind.ensures)
 
 pub returns-in_err-state : goal.returns-in_err-state
@@ -23,9 +23,9 @@ returns-in_err-state c =
     let L = ledger c.args.sheet.now in
     let k = effect_kind c.args.effect in
     let f = c.in_err-state.field-0.0 in
-    let r = c.from-residual-in_err-state.result in
+    let r = c.from_residual-in_err-state.result in
     let was = c.in_err-state.ensures in
-    faulted (AsksExtremes L c.args.state k L) c.args.line.now r (Question UnknownState) (wrapped Question f r c.from-residual-in_err-state.ensures.1 ∙ ap (λ q. Err (Question q)) was.0)
+    faulted (AsksExtremes L c.args.state k L) c.args.line.now r (Question UnknownState) (wrapped Question f r c.from_residual-in_err-state.ensures.1 ∙ ap (λ q. Err (Question q)) was.0)
     (at-state L c.args.state k c.in_ok-kind.kind c.in_ok-kind.ensures was.1)
 
 pub returns : goal.returns

@@ -16,7 +16,7 @@ returns-in_err-force c =
     let L = ledger c.args.sheet.now in
     let d = spacing_of c.args.spacing in
     let f = c.in_err-force.field-0.0 in
-    faulted (TellsShear L c.args.state d L) c.args.line.now c.from-residual.result (Question f) (wrapped Question f c.from-residual.result c.from-residual.ensures.1)
+    faulted (TellsShear L c.args.state d L) c.args.line.now c.from_residual.result (Question f) (wrapped Question f c.from_residual.result c.from_residual.ensures.1)
     (shear_refused L c.args.state d f (subst (λ o. RefusesShear L o f) c.spacing_of-spacing.ensures c.in_err-force.ensures))
 
 pub returns-in_err-state : goal.returns-in_err-state
@@ -24,10 +24,10 @@ returns-in_err-state c =
     let L = ledger c.args.sheet.now in
     let d = spacing_of c.args.spacing in
     let f = c.in_err-state.field-0.0 in
-    let r = c.from-residual-in_err-state.result in
+    let r = c.from_residual-in_err-state.result in
     let was = c.in_err-state.ensures in
     let force = subst (λ o. IsShearResistance L o c.in_ok-force.force) c.spacing_of-spacing.ensures c.in_ok-force.ensures in
-    faulted (TellsShear L c.args.state d L) c.args.line.now r (Question UnknownState) (wrapped Question f r c.from-residual-in_err-state.ensures.1 ∙ ap (λ q. Err (Question q)) was.0)
+    faulted (TellsShear L c.args.state d L) c.args.line.now r (Question UnknownState) (wrapped Question f r c.from_residual-in_err-state.ensures.1 ∙ ap (λ q. Err (Question q)) was.0)
     ((was.1, (c.in_ok-force.force, force)), refl)
 
 pub returns : goal.returns
