@@ -1,7 +1,7 @@
 -- What follows a command is shorter than what began with it.
-use Rattle.std.proofs.Common.{◌≡◌, ℕ, ◌<◌, ◌≤◌, Bool, true, false, cond, eqb, ltb, List, [], ◌∷◌, length, drop, Ok, Err, Result, sym, refl, ap, ◌∙◌, arith, length-drop}
+use Rattle.std.proofs.Common.{◌≡◌, ℕ, ◌<◌, ◌≤◌, Bool, true, false, cond, eqb, ltb, List, [], ◌∷◌, length, drop, Ok, Err, Result, ap, arith, length-drop}
 use Rattle.faults.specs.declared.reading.ReadFault.{ReadFault}
-use Rattle.faults.specs.declared.reading.ReadFault.TheVariants.{UnknownCommand, CutShort}
+use Rattle.faults.specs.declared.reading.ReadFault.TheVariants.{CutShort}
 use Rattle.command.specs.declared.commands.Command.{Command}
 use Rattle.command.specs.Bytes.{taking, parsed, place, lift, lower, enter, strike, extremes, bending, shear}
 

@@ -1,7 +1,6 @@
 -- A command taken from its operand bytes, as a slice pattern takes it.
-use Rattle.std.proofs.Common.{◌≡◌, ℕ, ◌-◌, ◌<◌, ◌≤◌, Bool, false, cond, ltb, List, [], ◌∷◌, length, get_or, take, drop, Ok, Err, Result, sym, refl, ap, ◌∙◌, le_refl, le-ltb}
+use Rattle.std.proofs.Common.{◌≡◌, ℕ, ◌-◌, ◌<◌, ◌≤◌, Bool, cond, List, ◌∷◌, length, get_or, take, drop, Ok, Err, sym, ap, ◌∙◌, le_refl, le-ltb}
 use Rattle.std.proofs.lemmas.Slice.{between_to_end, first_rest}
-use Rattle.faults.specs.declared.reading.ReadFault.{ReadFault}
 use Rattle.faults.specs.declared.reading.ReadFault.TheVariants.{CutShort}
 use Rattle.command.specs.declared.commands.Command.{Command}
 use Rattle.command.specs.Bytes.{taking}

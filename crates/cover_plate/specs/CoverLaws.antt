@@ -1,5 +1,5 @@
 -- A cover plate keeps the laws of parts.
-use Rattle.std.specs.Prelude.{◌≡◌, ℕ, ◌+◌, ◌*◌, ◌^◌, ◌≤◌}
+use Rattle.std.specs.Prelude.{◌≡◌, ℕ, ◌*◌, ◌^◌, ◌≤◌}
 use Rattle.std.proofs.Common.{arith}
 use Rattle.section.specs.Strips.{sum_to}
 use Rattle.section.specs.Parts.{Lawful}

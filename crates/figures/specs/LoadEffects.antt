@@ -1,5 +1,5 @@
 -- Factored extremes of worked load effects, as statements on the definitions.
-use Rattle.std.specs.Prelude.{◌≡◌, ℕ, true, false, pos, neg_ℤ, ◌≢◌, Float}
+use Rattle.std.specs.Prelude.{ℕ, true, false, pos, neg_ℤ, ◌≢◌, Float}
 use Rattle.std.specs.Float.{fin}
 use Rattle.loads.specs.declared.load_type.LoadType.{LoadType}
 use Rattle.loads.specs.declared.load_type.LoadType.TheVariants.{Dc, Dw, Ll}

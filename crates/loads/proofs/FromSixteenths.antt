@@ -1,15 +1,14 @@
 -- A whole number of sixteenths as a float. Assumes nothing.
-use Rattle.std.proofs.Common.{◌≡◌, ℕ, zero, suc, ◌+◌, ◌-◌, ◌*◌, ◌/◌, ◌%◌, ◌^◌, ◌<◌, ◌≤◌, Bool, true, false, cond, not, T, eqb, ltb, ◌⊎◌, ℤ, pos, negsuc, nat_abs, Ok, Err, Result, sym, refl, ap, ◌∙◌, subst, inl, inr, lt_of_lt_of_le, lt_of_le_of_lt, mul-le-mul_right, zero-lt-suc, mul_comm, mul-lt-mul_of_pos_right, mul-pos, one-mul, mul-one, mul-div_cancel, arith, lit<, lit≤, pow_pos, pow_mono, pow-add, shl_lt, le-ltb, lt-ltb, eq-eqb}
+use Rattle.std.proofs.Common.{◌≡◌, ℕ, suc, ◌*◌, ◌/◌, ◌%◌, ◌^◌, ◌<◌, ◌≤◌, Bool, true, false, cond, not, ltb, ◌⊎◌, ℤ, pos, negsuc, nat_abs, Ok, Err, sym, refl, ap, ◌∙◌, subst, inl, inr, lt_of_lt_of_le, mul-le-mul_right, zero-lt-suc, mul_comm, mul-lt-mul_of_pos_right, mul-pos, mul-div_cancel, arith, lit≤, pow_mono, pow-add, shl_lt, le-ltb, lt-ltb, eq-eqb}
 use native.Mathlib.Nat.{mul-mod_left}
-use lib.Signed.{non_neg, mag}
+use lib.Signed.{non_neg}
 use Rattle.std.proofs.lemmas.Bool.{cases_lt}
-use lib.Ieee.{Float, nan, inf, fin, Format, binary64, prec, emax, up, down, unlike, round, div, of_int, of_bits}
+use lib.Ieee.{Float, nan, inf, fin, binary64, up, down, unlike, round, div, of_int}
 use lib.Ieee.Fits.{down_pos}
 use lib.Ieee.Exact.{HasValue, round_exact}
 use lib.Ieee.Scale.{round_same}
 use lib.Ieee.Back.{round_whole}
-use Rattle.faults.specs.declared.value.ValueFault.{ValueFault}
-use Rattle.faults.specs.declared.value.ValueFault.TheVariants.{OutOfRange, NotSixteenths}
+use Rattle.faults.specs.declared.value.ValueFault.TheVariants.{OutOfRange}
 use Rattle.loads.specs.Values.{signed, judged_fraction, judged, IsSixteenths, judged_sixteenths}
 use Rattle.loads.proofs.Sixteenths.{sixteen, sixteen_is}
 

@@ -1,10 +1,9 @@
 -- What `sixteenths` answers at each float. Assumes nothing.
-use Rattle.std.proofs.Common.{◌≡◌, ℕ, zero, suc, ◌+◌, ◌-◌, ◌*◌, ◌/◌, ◌%◌, ◌^◌, ◌<◌, ◌≤◌, Bool, true, false, cond, not, ◌&&◌, ◌||◌, T, eqb, ltb, ◌⊎◌, ℤ, pos, negsuc, Ok, Err, Result, sym, refl, ap, ◌∙◌, subst, inl, inr, zero-lt-suc, mul-pos, mul-one, arith, lit<, lit≤, ltb-false, ltb-true, le-ltb, lt-ltb, eq-eqb, ne_eqb, eqb-true}
+use Rattle.std.proofs.Common.{◌≡◌, ℕ, ◌+◌, ◌*◌, ◌/◌, ◌%◌, ◌<◌, ◌≤◌, Bool, true, false, ◌&&◌, ◌||◌, T, ltb, ℤ, pos, Ok, Err, sym, refl, ap, ◌∙◌, subst, inl, inr, zero-lt-suc, mul-one, arith, lit≤, ltb-false, ltb-true, le-ltb, lt-ltb, eq-eqb, ne_eqb, eqb-true}
 use borrow.Author.Tests.{eqb-false, clash}
 use lib.Ieee.{Float, nan, inf, fin, binary64, up, down, round, mul, eq, le, lt, neg, of_int, of_bits, to_signed, fits}
-use lib.Ieee.Fits.{up_pos, down_pos}
+use lib.Ieee.Fits.{down_pos}
 use lib.Ieee.Exact.{HasValue}
-use Rattle.faults.specs.declared.value.ValueFault.{ValueFault}
 use Rattle.faults.specs.declared.value.ValueFault.TheVariants.{OutOfRange, NotSixteenths}
 use Rattle.loads.specs.Values.{signed, judged_fraction, judged}
 use Rattle.loads.proofs.FloatValues.{or_split, digits_lt, scaled, cut, eq_out, eq_in, of_signed}

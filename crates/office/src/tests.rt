@@ -24,7 +24,7 @@ fn a_buffer_that_is_surely_long_enough(rt: HostRuntime) {
     assert_eq!(rt; mosvitar_transcript(&RECORD, &mut out), 40);
     assert_eq!(rt;
         &out[0..43],
-        b"fault at 0 sheet 3\nfault at 2 record 17\n..."
+        b"fault at 0 sheet 3\nfault at 2 record 17\n...".as_slice()
     );
 }
 

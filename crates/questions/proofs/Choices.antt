@@ -1,5 +1,5 @@
 -- The factored sum by load types, and the extremes from each type's least and greatest product.
-use Rattle.std.proofs.Common.{◌≡◌, ℕ, ◌*◌, ◌<◌, ◌≤◌, max, Bool, true, false, cond, eqb, ◌⊎◌, List, [], ◌∷◌, ℤ, pos, ◌+ℤ◌, ◌*ℤ◌, nat_abs, ◌≤ℤ◌, ◌<ℤ◌, Some, None, Option, sym, refl, ap, ◌∙◌, subst, inl, inr, mul-le-mul_left, arith}
+use Rattle.std.proofs.Common.{◌≡◌, ℕ, ◌*◌, ◌<◌, ◌≤◌, max, Bool, true, false, cond, eqb, ◌⊎◌, List, [], ◌∷◌, ℤ, pos, ◌+ℤ◌, nat_abs, ◌≤ℤ◌, ◌<ℤ◌, Some, None, Option, sym, ap, ◌∙◌, subst, inl, inr, mul-le-mul_left, arith}
 use lib.Signed.{lt_z}
 use borrow.Author.Differences.{ints, sum_is_lem, le_out}
 use Rattle.std.proofs.lemmas.Bool.{cases_lt}
@@ -9,7 +9,7 @@ use Rattle.loads.specs.declared.kind.EffectKind.{EffectKind}
 use Rattle.loads.specs.Factors.{index, range, Lawful}
 use Rattle.loads.specs.Kinds.{same_kind}
 use Rattle.sheet.specs.declared.row.Row.{Row}
-use Rattle.sheet.specs.Totals.{total, adds, type_sum}
+use Rattle.sheet.specs.Totals.{adds, type_sum}
 use Rattle.questions.specs.Extremes.{Choice, Chosen, times, factored_slot, factored, Extremes}
 use Rattle.questions.specs.Products.{least, greatest}
 use Rattle.questions.proofs.Products.{least_below, greatest_above, low_factor, high_factor, low_factor_meets, high_factor_meets, low-factor-within, high-factor-within}

@@ -1,5 +1,5 @@
 -- The least number of studs, and the bounds of one stud's resistance.
-use Rattle.std.proofs.Common.{◌≡◌, ℕ, zero, suc, ◌+◌, ◌*◌, ◌/◌, ◌%◌, ◌<◌, ◌≤◌, min, ◌⊎◌, sym, refl, ap, ◌∙◌, subst, inl, inr, mod-lt, mul-le-mul, mul-le-mul_left, div-add-mod', le-div_iff_mul-le, arith}
+use Rattle.std.proofs.Common.{◌≡◌, ℕ, zero, suc, ◌+◌, ◌*◌, ◌/◌, ◌%◌, ◌<◌, ◌≤◌, min, ◌⊎◌, sym, refl, ap, subst, inl, inr, mod-lt, mul-le-mul, mul-le-mul_left, div-add-mod', le-div_iff_mul-le, arith}
 use native.Mathlib.Nat.{div-le_of_le-mul}
 use Rattle.std.proofs.lemmas.Bool.{cases_lt}
 use Rattle.section.specs.Strips.{sum_to, force_above, force_below}

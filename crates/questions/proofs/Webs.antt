@@ -1,12 +1,12 @@
 -- The bounds of a standing web, of its buckling coefficient and of its shears.
-use Rattle.std.proofs.Common.{◌≡◌, ℕ, zero, suc, ◌+◌, ◌*◌, ◌/◌, ◌^◌, ◌<◌, ◌≤◌, max, Bool, true, false, cond, not, ◌&&◌, ◌||◌, eqb, leb, ◌⊎◌, List, [], ◌∷◌, Some, None, MatchBool, Option, sym, refl, ap, ◌∙◌, subst, inl, inr, mul-le-mul, mul-pos, arith, le-leb, leb-true}
+use Rattle.std.proofs.Common.{◌≡◌, ℕ, suc, ◌+◌, ◌*◌, ◌/◌, ◌<◌, ◌≤◌, Bool, true, false, cond, ◌&&◌, eqb, leb, List, [], ◌∷◌, Some, None, Option, sym, refl, ap, ◌∙◌, subst, mul-le-mul, arith, le-leb, leb-true}
 use native.Mathlib.Nat.{div-le_of_le-mul}
 use borrow.Author.Tests.{clash, lt-leb}
 use Rattle.sheet.specs.declared.plate.Role.{Role}
 use Rattle.sheet.specs.declared.plate.Role.TheVariants.{Web}
 use Rattle.sheet.specs.declared.plate.Plate.{Plate}
 use Rattle.sheet.specs.Plates.{role_number, is_sized, same_role, standing}
-use Rattle.sheet.specs.Invariants.{Within, within, within_in}
+use Rattle.sheet.specs.Invariants.{Within, within}
 use Rattle.questions.specs.Roots.{IsRoot}
 use Rattle.questions.specs.Shear.{WebFits, spacing_fits, Buckles, IsShearForce}
 

@@ -1,5 +1,5 @@
 -- One step more of a transcript.
-use Rattle.std.proofs.Common.{◌≡◌, ℕ, ◌+◌, ◌-◌, ◌<◌, ◌≤◌, Bool, true, false, eqb, ltb, List, [], ◌++◌, length, take, drop, Ok, Err, codes, MatchBool, Result, sym, refl, ap, ◌∙◌, subst, append_assoc, arith, length-append, length-drop, le-ltb, lt-ltb, ne_eqb}
+use Rattle.std.proofs.Common.{◌≡◌, ℕ, ◌<◌, ◌≤◌, Bool, true, false, List, [], ◌++◌, length, take, drop, Ok, Err, codes, MatchBool, Result, sym, refl, ap, ◌∙◌, subst, append_assoc, arith, length-append, length-drop, le-ltb, lt-ltb, ne_eqb}
 use borrow.Author.Tests.{clash}
 use Rattle.std.proofs.lemmas.Fmt.{decimal_digit, decimal_step}
 use Rattle.std.proofs.lemmas.List.{take_at, append-nil}
@@ -13,7 +13,7 @@ use Rattle.command.proofs.Shorter.{shorter}
 use Rattle.record.specs.declared.stepped.Stepped.{Stepped}
 use Rattle.record.specs.Lines.{fault_line, Wrote}
 use Rattle.record.specs.Runs.{Outcome}
-use Rattle.record.specs.Steps.{Obeys, Advances, step_text, report_of, Steps, Report, MakesStep}
+use Rattle.record.specs.Steps.{Obeys, Advances, step_text, Report, MakesStep}
 use Rattle.record.specs.Transcripts.{Follows, Reads, ended, stepped, Transcript}
 
 not_so : (b : Bool) (P Q : Type 0) → b ≡ false → MatchBool b P Q → Q

@@ -1,5 +1,5 @@
 -- The tests of a step, in their order.
-use Rattle.std.proofs.Common.{◌≡◌, ℕ, ◌-◌, ◌<◌, ◌≤◌, Bool, true, false, eqb, ltb, List, [], length, take, drop, Some, None, Ok, Err, MatchBool, Result, sym, refl, ap, ◌∙◌, subst, le_refl, arith, le-ltb, lt-ltb, eq-eqb, ne_eqb}
+use Rattle.std.proofs.Common.{◌≡◌, ℕ, ◌-◌, ◌<◌, ◌≤◌, Bool, true, false, List, [], length, take, drop, None, Ok, Err, MatchBool, Result, sym, refl, ap, ◌∙◌, subst, le_refl, arith, le-ltb, lt-ltb, eq-eqb, ne_eqb}
 use Rattle.std.proofs.lemmas.Slice.{between_to_end}
 use Rattle.faults.specs.declared.reading.ReadFault.{ReadFault}
 use Rattle.faults.specs.declared.reading.ReadFault.TheVariants.{CutShort, ShortBuffer, TooLong}

@@ -20,7 +20,7 @@ fn an_unknown_command_ends_the_record(rt: HostRuntime) -> Result<(), Fail> {
     ];
     let lines = transcript(rt.alloc(), &bytes)?;
     let expected = b"6 low 144000 high 200000\nfault at 11 sheet 3\nfault at 13 record 16\n";
-    assert_eq!(rt; lines.as_slice(), expected);
+    assert_eq!(rt; lines.as_slice(), expected.as_slice());
     Ok(())
 }
 
@@ -29,7 +29,7 @@ fn a_command_is_cut_short(rt: HostRuntime) -> Result<(), Fail> {
     let lines = transcript(rt.alloc(), &[0x05, 0, 0x06, 1])?;
     assert_eq!(rt;
         lines.as_slice(),
-        b"fault at 0 sheet 3\nfault at 2 record 17\n"
+        b"fault at 0 sheet 3\nfault at 2 record 17\n".as_slice()
     );
     Ok(())
 }
@@ -45,7 +45,7 @@ fn a_girder_in_bending_and_shear(rt: HostRuntime) -> Result<(), Fail> {
     let lines = transcript(rt.alloc(), bytes.as_slice())?;
     let expected =
         b"7 level 131 moment 81830493 mn 78271676 verdict 0\n8 shear 105629600 verdict 0\n8 shear 134517438 verdict 0\n";
-    assert_eq!(rt; lines.as_slice(), expected);
+    assert_eq!(rt; lines.as_slice(), expected.as_slice());
     Ok(())
 }
 
@@ -57,7 +57,7 @@ fn a_place_past_the_end(rt: HostRuntime) {
     assert_eq!(rt; refusal(stepped), 17);
     assert_eq!(rt; stepped.place, 1);
     assert_eq!(rt; stepped.written, 21);
-    assert_eq!(rt; &line[0..24], b"fault at 2 record 17\n...");
+    assert_eq!(rt; &line[0..24], b"fault at 2 record 17\n...".as_slice());
 }
 
 #[test]

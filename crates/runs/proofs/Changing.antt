@@ -1,5 +1,5 @@
 -- A change's reply and what it leaves.
-use Rattle.std.proofs.Common.{◌≡◌, Ok, Err, Result, sym, refl, ◌∙◌, subst}
+use Rattle.std.proofs.Common.{◌≡◌, Ok, Err, Result, sym, ◌∙◌, subst}
 use Rattle.faults.specs.declared.sheet.SheetFault.{SheetFault}
 use Rattle.faults.specs.Numbers.{sheet_number}
 use Rattle.sheet.specs.Ledger.{Ledger, Change, after, Answers}

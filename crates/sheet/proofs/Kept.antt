@@ -1,15 +1,14 @@
 -- What every sheet keeps of its plates, after each change.
-use Rattle.std.proofs.Common.{◌≡◌, ℕ, zero, suc, ◌+◌, ◌*◌, ◌^◌, ◌<◌, ◌≤◌, Bool, true, false, not, ◌&&◌, ◌||◌, eqb, leb, ◌⊎◌, List, [], ◌∷◌, length, get_or, set, replicate, is_some, Some, None, Option, sym, refl, ap, ◌∙◌, subst, inl, inr, mul-le-mul, arith, ltb-false, ne_eqb, le-leb}
+use Rattle.std.proofs.Common.{◌≡◌, ℕ, zero, suc, ◌+◌, ◌*◌, ◌^◌, ◌<◌, ◌≤◌, Bool, true, false, ◌&&◌, eqb, leb, ◌⊎◌, List, length, set, is_some, Some, None, Option, refl, ap, ◌∙◌, inl, inr, mul-le-mul, arith, ltb-false, ne_eqb, le-leb}
 use Rattle.std.proofs.lemmas.List.{get_or-set_same, get_or-set_other, get_or_past}
 use Rattle.std.proofs.lemmas.List.Sums.{sum_by-set, sum_by-cons}
 use Rattle.std.proofs.lemmas.Bool.{cases_eq, cases_lt}
 use Rattle.std.proofs.lemmas.Bool.Decides.{nat_tests}
-use Rattle.sheet.specs.declared.plate.Role.{Role}
 use Rattle.sheet.specs.declared.plate.Plate.{Plate}
 use Rattle.sheet.specs.declared.plate.PlateInput.{PlateInput}
 use Rattle.sheet.specs.Slots.{empties, full, content}
-use Rattle.sheet.specs.Plates.{role_number, role_of, is_sized, is_lawful, plate_of, force, force_in, total_force, passes_in, passes, lowered_in, lowered, lowered_plate, clash_in}
-use Rattle.sheet.specs.Invariants.{Light, within, within_in, Within, clash_of, Once}
+use Rattle.sheet.specs.Plates.{role_number, role_of, is_sized, is_lawful, plate_of, force, force_in, total_force, passes_in, passes, lowered_in, lowered}
+use Rattle.sheet.specs.Invariants.{Light, within, within_in, Within}
 use Rattle.sheet.proofs.Lowering.{some_none, total_force_kept}
 use Rattle.sheet.proofs.Roles.{get_or-lowered, get_or-empties}
 use borrow.Author.Tests.{clash}

@@ -1,14 +1,13 @@
 -- The plates' measures after each change.
-use Rattle.std.proofs.Common.{◌≡◌, ℕ, zero, suc, ◌+◌, ◌-◌, ◌*◌, ◌^◌, ◌<◌, ◌≤◌, min, Bool, true, false, ◌&&◌, eqb, leb, ◌⊎◌, List, [], ◌∷◌, map, length, get_or, set, replicate, Some, None, Option, sym, refl, ap, ◌∙◌, subst, inl, inr, arith, ltb-false, eq-eqb, eqb-true}
+use Rattle.std.proofs.Common.{◌≡◌, ℕ, zero, suc, ◌+◌, ◌-◌, ◌*◌, ◌^◌, ◌<◌, ◌≤◌, min, Bool, true, false, ◌&&◌, eqb, ◌⊎◌, List, [], ◌∷◌, map, length, get_or, set, replicate, Some, None, Option, sym, refl, ap, ◌∙◌, inl, inr, arith, ltb-false, eq-eqb, eqb-true}
 use Rattle.std.proofs.lemmas.List.{get_or-set_same, get_or-set_other, get_or_past}
 use Rattle.std.proofs.lemmas.Bool.{cases_eq, cases_lt}
 use Rattle.std.proofs.lemmas.Bool.Decides.{nat_tests}
 use Rattle.sheet.specs.declared.plate.Plate.{Plate}
-use Rattle.sheet.specs.declared.measures.Measures.{Measures}
 use Rattle.sheet.specs.Slots.{empties, content}
 use Rattle.sheet.specs.Plates.{passes_in, passes, lowered_in, lowered}
 use Rattle.sheet.specs.Invariants.{within}
-use Rattle.sheet.specs.Measures.{fits_slot, Measured}
+use Rattle.sheet.specs.Measures.{fits_slot}
 use Rattle.sheet.proofs.Lowering.{some_none}
 use Rattle.sheet.proofs.Roles.{get_or-lowered, get_or-empties}
 use borrow.Author.Tests.{clash}

@@ -1,10 +1,9 @@
 -- The force of the plates above a level, one slot after another, and what is left below it.
-use Rattle.std.proofs.Common.{◌≡◌, ℕ, ◌+◌, ◌-◌, ◌*◌, ◌^◌, ◌<◌, ◌≤◌, min, true, List, length, get_or, take, Some, None, Option, sym, refl, ap, ◌∙◌, mul-zero, arith, eqb-true}
+use Rattle.std.proofs.Common.{◌≡◌, ℕ, ◌+◌, ◌-◌, ◌*◌, ◌<◌, ◌≤◌, min, true, List, length, get_or, take, Some, None, Option, sym, refl, ap, ◌∙◌, mul-zero, arith, eqb-true}
 use Rattle.section.specs.declared.sense.Sense.{Sense}
 use Rattle.section.specs.declared.sense.Sense.TheVariants.{Sagging, Hogging}
 use Rattle.section.specs.Strips.{sum_to, force_above, force_below, no_strips}
 use Rattle.section.specs.Sums.{sum_to_le, sum_to_split, zeros}
-use Rattle.section.specs.Blocks.{block_strip}
 use Rattle.section.specs.Parts.{IsForces}
 use Rattle.section.proofs.Together.{force_above_both, force_above_le}
 use Rattle.section.proofs.ClosedForm.{between, is_above}

@@ -1,5 +1,5 @@
 -- The plates' strips, one slot after another.
-use Rattle.std.proofs.Common.{◌≡◌, ℕ, zero, suc, ◌+◌, ◌*◌, ◌^◌, ◌<◌, ◌≤◌, min, max, true, List, [], ◌∷◌, ◌++◌, length, get_or, take, Some, None, Option, sym, refl, ap, ◌∙◌, subst, arith}
+use Rattle.std.proofs.Common.{◌≡◌, ℕ, zero, suc, ◌+◌, ◌^◌, ◌<◌, ◌≤◌, min, max, true, List, [], ◌∷◌, ◌++◌, length, get_or, take, Some, None, Option, sym, ap, ◌∙◌, subst, arith}
 use mathlib.Core.Path.{fun_ext}
 use native.Mathlib.Nat.{max_comm}
 use Rattle.std.proofs.lemmas.List.{take_more}
@@ -12,8 +12,7 @@ use Rattle.section.specs.Sums.{sum_to_le}
 use Rattle.section.specs.Parts.{IsDepth, IsResultants}
 use Rattle.section.proofs.Together.{resultants_small, resultants_both, depth_both}
 use Rattle.sheet.specs.declared.plate.Plate.{Plate}
-use Rattle.sheet.specs.Slots.{content}
-use Rattle.sheet.specs.Plates.{force, force_in, total_force}
+use Rattle.sheet.specs.Plates.{force, force_in}
 use Rattle.sheet.specs.Invariants.{Light, Within, within, within_in}
 use Rattle.sheet.specs.PlateStrips.{slot_strips, plate_strips}
 use Rattle.sheet.specs.PlateLaws.{strips-sum}

@@ -1,6 +1,6 @@
 -- The plates of a sheet are a lawful part.
-use Rattle.std.specs.Prelude.{◌≡◌, ℕ, zero, suc, ◌+◌, ◌*◌, ◌^◌, ◌≤◌, Bool, true, false, ◌&&◌, List, [], ◌∷◌, Some, None, sum_by, Option, ◌==◌, nat_le, refl}
-use Rattle.std.proofs.Common.{sym, ap, ◌∙◌, arith}
+use Rattle.std.specs.Prelude.{◌≡◌, ℕ, suc, ◌+◌, ◌*◌, ◌≤◌, Bool, true, false, ◌&&◌, List, [], ◌∷◌, Some, None, Option, ◌==◌, nat_le, refl}
+use Rattle.std.proofs.Common.{arith}
 use borrow.Author.Tests.{leb-true, clash}
 use Rattle.std.proofs.lemmas.List.Sums.{sum_by-cons}
 use Rattle.section.specs.Strips.{sum_to}
@@ -9,7 +9,7 @@ use Rattle.section.specs.BlockLaws.{block_past, block_sum}
 use Rattle.section.specs.Parts.{Lawful}
 use Rattle.sheet.specs.declared.plate.Plate.{Plate}
 use Rattle.sheet.specs.declared.held.Sheet.{Sheet}
-use Rattle.sheet.specs.Plates.{role_number, is_sized, force, force_in, total_force}
+use Rattle.sheet.specs.Plates.{role_number, is_sized, force_in, total_force}
 use Rattle.sheet.specs.Invariants.{Within, within, within_in}
 use Rattle.sheet.specs.PlateStrips.{slot_strips, plate_strips}
 

@@ -1,10 +1,9 @@
 -- `figures::load_effects::opposed` meets its contract.
-use Rattle.std.proofs.Common.{◌≡◌, pos, neg_ℤ, refl, subst, arith}
+use Rattle.std.proofs.Common.{pos, neg_ℤ, refl, arith}
 use borrow.Author.Differences.{ints}
 use Rattle.loads.specs.declared.kind.EffectKind.TheVariants.{Moment}
 use Rattle.loads.specs.Factors.{strength_i}
 use Rattle.loads.proofs.Laws.{published_lawful}
-use Rattle.questions.specs.Extremes.{Extremes}
 use Rattle.questions.proofs.Choices.{extremes_from}
 use Rattle.figures.specs.LoadEffects.{opposed, Opposed}
 use Rattle.figures.proofs.load_effects.opposed.Goals as goal

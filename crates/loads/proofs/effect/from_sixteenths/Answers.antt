@@ -1,5 +1,5 @@
 -- `loads::effect::from_sixteenths` meets its contract. Assumes nothing.
-use Rattle.std.proofs.Common.{◌≤◌, ℤ, nat_abs, sym, subst, to_z-of_z}
+use Rattle.std.proofs.Common.{to_z-of_z}
 use lib.Signed.{nat_abs-le}
 use lib.Ieee.{binary64, div, of_int}
 use Rattle.loads.specs.Values.{IsSixteenths}

@@ -1,7 +1,5 @@
 -- `loads::effect::sixteenths` meets its contract. Assumes nothing.
-use Rattle.std.proofs.Common.{◌≡◌, ℕ, T, ℤ, Result, sym, ◌∙◌, subst, to_z-of_z, w32}
-use lib.Ieee.{Float, binary64, fits}
-use Rattle.loads.specs.Values.{judged}
+use Rattle.std.proofs.Common.{T, sym, ◌∙◌, subst, to_z-of_z, w32}
 use Rattle.loads.proofs.Sixteenths.{accepted, refused, out_low, out_high}
 use Rattle.loads.proofs.Meaning.{judged_means}
 use Rattle.loads.proofs.effect.sixteenths.Goals as goal

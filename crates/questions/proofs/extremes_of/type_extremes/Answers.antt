@@ -1,6 +1,6 @@
 -- `questions::extremes_of::type_extremes` meets its contract.
 use Rattle.std.proofs.Common.{◌≡◌, ℕ, ◌*◌, ◌^◌, ◌≤◌, ℤ, nat_abs, sym, ap, ◌∙◌, subst, to_z-of_z, w64, SFits}
-use Rattle.loads.specs.Factors.{range, Range}
+use Rattle.loads.specs.Factors.{Range}
 use Rattle.questions.specs.Extremes.{times}
 use Rattle.questions.specs.Products.{least, greatest}
 use Rattle.questions.proofs.Products.{product_fits, factor, least-small, greatest-small, at_most}

@@ -1,8 +1,7 @@
 -- `questions::shear_of::shear_resistance` meets its contract.
-use Rattle.std.proofs.Common.{◌≡◌, Some, sym, ◌∙◌, rules}
+use Rattle.std.proofs.Common.{◌≡◌, Some, sym, ◌∙◌}
 use Rattle.sheet.specs.declared.plate.Role.TheVariants.{Web}
 use Rattle.sheet.specs.Plates.{standing}
-use Rattle.questions.specs.Shear.{WebFits}
 use Rattle.questions.proofs.Webs.{web_fits}
 use Rattle.questions.proofs.shear_of.shear_resistance.Goals as goal
 

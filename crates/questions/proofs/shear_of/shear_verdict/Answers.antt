@@ -1,5 +1,5 @@
 -- `questions::shear_of::shear_verdict` meets its contract.
-use Rattle.std.proofs.Common.{◌≡◌, ℕ, ◌*◌, max, ℤ, nat_abs, sym, ap, ◌∙◌, arith, to_z-of_z, w64, SFits, rules}
+use Rattle.std.proofs.Common.{◌≡◌, ◌*◌, max, nat_abs, ap, ◌∙◌, arith, to_z-of_z, w64, SFits, rules}
 use Rattle.loads.specs.declared.kind.EffectKind.TheVariants.{Shear}
 use Rattle.questions.proofs.Choices.{none_larger, some_larger}
 use Rattle.questions.proofs.shear_of.shear_verdict.Goals as goal

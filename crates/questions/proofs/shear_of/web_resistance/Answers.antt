@@ -1,5 +1,5 @@
 -- `questions::shear_of::web_resistance` meets its contract.
-use Rattle.std.proofs.Common.{◌≡◌, ℕ, ◌*◌, ◌/◌, ◌^◌, ◌≤◌, sym, refl, subst, mul-le-mul, arith}
+use Rattle.std.proofs.Common.{ℕ, ◌*◌, ◌/◌, ◌^◌, ◌≤◌, refl, subst, mul-le-mul, arith}
 use Rattle.questions.specs.Shear.{IsShearForce}
 use Rattle.questions.proofs.Webs.{inelastic}
 use Rattle.questions.proofs.shear_of.web_resistance.Goals as goal

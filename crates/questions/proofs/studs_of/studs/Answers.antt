@@ -1,8 +1,7 @@
 -- `questions::studs_of::studs` meets its contract.
-use Rattle.std.proofs.Common.{◌≡◌, ℕ, ◌^◌, ◌≤◌, min, sym, ap, ◌∙◌, subst, arith}
+use Rattle.std.proofs.Common.{◌≡◌, ℕ, min, ◌∙◌, subst, arith}
 use Rattle.sheet.specs.Ledger.{ledger}
 use Rattle.sheet.specs.PlateStrips.{plate_strips}
-use Rattle.sheet.specs.PlateLaws.{plates_laws}
 use Rattle.questions.specs.Studs.{interface_force, IsCount}
 use Rattle.questions.proofs.StudCounts.{all_above, all_below}
 use Rattle.questions.proofs.studs_of.studs.Goals as goal

@@ -1,6 +1,5 @@
 -- `record::running::run_bending` meets its contract.
-use Rattle.std.proofs.Common.{◌≡◌, ℕ, [], Ok, Err, sym, refl, ap, ◌∙◌, subst}
-use Rattle.faults.specs.declared.part.PartFault.TheVariants.{OutsideLimits}
+use Rattle.std.proofs.Common.{ℕ, [], Err, refl, ap, ◌∙◌, subst}
 use Rattle.faults.specs.declared.question.QuestionFault.TheVariants.{UnknownState}
 use Rattle.faults.specs.declared.recorded.RecordFault.TheVariants.{Part, Question}
 use Rattle.sheet.specs.Ledger.{ledger}

@@ -1,5 +1,5 @@
 -- `record::running::run_extremes` meets its contract.
-use Rattle.std.proofs.Common.{Ok, Err, sym, ap, ◌∙◌, subst, to_z-of_z, w64, SFits, rules}
+use Rattle.std.proofs.Common.{Err, ap, ◌∙◌, subst, to_z-of_z, w64, SFits, rules}
 use Rattle.faults.specs.declared.question.QuestionFault.TheVariants.{UnknownState}
 use Rattle.faults.specs.declared.recorded.RecordFault.TheVariants.{Question, Reading}
 use Rattle.sheet.specs.Ledger.{ledger}

@@ -1,5 +1,5 @@
 -- `record::running::run_shear` meets its contract.
-use Rattle.std.proofs.Common.{◌≡◌, Ok, Err, sym, refl, ap, ◌∙◌, subst}
+use Rattle.std.proofs.Common.{Err, refl, ap, ◌∙◌, subst}
 use Rattle.faults.specs.declared.question.QuestionFault.TheVariants.{UnknownState}
 use Rattle.faults.specs.declared.recorded.RecordFault.TheVariants.{Question}
 use Rattle.sheet.specs.Ledger.{ledger}

@@ -1,5 +1,5 @@
 -- `questions::stud::Stud::force` meets its contract.
-use Rattle.std.proofs.Common.{◌≡◌, ℕ, ◌*◌, ◌/◌, ◌^◌, ◌≤◌, min, sym, ap, ◌∙◌, subst, mul-le-mul, arith}
+use Rattle.std.proofs.Common.{◌≡◌, ℕ, ◌*◌, ◌/◌, ◌^◌, ◌≤◌, min, sym, ◌∙◌, subst, mul-le-mul, arith}
 use Rattle.questions.specs.Roots.{IsRoot}
 use Rattle.questions.proofs.StudCounts.{force_some, force_small}
 use Rattle.questions.proofs.stud.Stud.force.Goals as goal

@@ -1,5 +1,5 @@
 -- `record::line_writer::LineWriter::put_level` meets its contract.
-use Rattle.std.proofs.Common.{◌^◌, ◌<◌, ◌≤◌, length, decimal, arith, rules}
+use Rattle.std.proofs.Common.{arith, rules}
 use Rattle.std.proofs.lemmas.Fmt.{length-decimal-le}
 use Rattle.record.proofs.line_writer.LineWriter.put_level.Goals as goal
 

@@ -1,5 +1,5 @@
 -- `record::line_writer::LineWriter::put_verdict` meets its contract.
-use Rattle.std.proofs.Common.{◌≡◌, ℕ, ◌<◌, decimal, sym, ap, subst, arith}
+use Rattle.std.proofs.Common.{ℕ, ◌<◌, decimal, sym, ap, subst, arith}
 use Rattle.questions.specs.declared.answers.Verdict.{Verdict}
 use Rattle.questions.specs.declared.answers.Verdict.TheVariants.{Carries, NotCompact, Brittle, TooWeak}
 use Rattle.questions.specs.Bending.{verdict_number}

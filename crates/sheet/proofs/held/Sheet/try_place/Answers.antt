@@ -1,5 +1,5 @@
 -- `sheet::held::Sheet::try_place` meets its contract.
-use Rattle.std.proofs.Common.{◌≡◌, ◌+◌, ◌^◌, ◌<◌, ◌≤◌, length, set, Some, sym, ap, ◌∙◌, subst, arith}
+use Rattle.std.proofs.Common.{◌<◌, length, set, Some, sym, ap, ◌∙◌, subst, arith}
 use Rattle.sheet.specs.declared.plate.Plate.{Plate}
 use Rattle.sheet.specs.Plates.{plate_of, force, stands}
 use Rattle.sheet.specs.Invariants.{Light, Within, Once, within}

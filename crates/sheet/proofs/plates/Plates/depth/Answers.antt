@@ -1,5 +1,5 @@
 -- `sheet::plates::Plates::depth` meets its contract.
-use Rattle.std.proofs.Common.{◌+◌, ◌<◌, ◌≤◌, length, take, sym, ap, ◌∙◌, subst, arith}
+use Rattle.std.proofs.Common.{◌+◌, ◌<◌, ◌≤◌, length, take, sym, ◌∙◌, subst, arith}
 use Rattle.std.proofs.lemmas.List.{take_all}
 use Rattle.section.specs.Parts.{IsDepth}
 use Rattle.section.proofs.Together.{depth_none}

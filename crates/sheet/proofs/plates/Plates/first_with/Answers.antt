@@ -1,5 +1,5 @@
 -- `sheet::plates::Plates::first_with` meets its contract.
-use Rattle.std.proofs.Common.{◌≡◌, ◌<◌, ◌≤◌, length, Some, None, sym, ap, ◌∙◌, arith}
+use Rattle.std.proofs.Common.{◌<◌, ◌≤◌, length, sym, ◌∙◌, arith}
 use Rattle.sheet.specs.Plates.{standing}
 use Rattle.sheet.proofs.SlotTests.{standing_here, standing_other, standing_none}
 use Rattle.std.proofs.lemmas.List.{at_drop_all}

@@ -1,5 +1,5 @@
 -- `sheet::plates::Plates::forces` meets its contract.
-use Rattle.std.proofs.Common.{◌≡◌, ◌+◌, ◌<◌, ◌≤◌, min, length, get_or, take, sym, refl, ap, ◌∙◌, arith}
+use Rattle.std.proofs.Common.{◌+◌, ◌<◌, ◌≤◌, min, length, sym, refl, ap, ◌∙◌, arith}
 use Rattle.std.proofs.lemmas.List.{take_all}
 use Rattle.section.specs.Strips.{force_above}
 use Rattle.sheet.specs.PlateStrips.{plate_strips}

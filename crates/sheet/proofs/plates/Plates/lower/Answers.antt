@@ -1,9 +1,8 @@
-use Rattle.std.proofs.Common.{◌≡◌, ◌<◌, ◌≤◌, length, set, Some, None, sym, ap, ◌∙◌, arith}
+use Rattle.std.proofs.Common.{◌<◌, length, Some, None, sym, ap, ◌∙◌, arith}
 use lib.ListN.{length-map}
-use Rattle.std.proofs.lemmas.List.{set-get_or}
 use Rattle.std.proofs.lemmas.Bool.{ltb-false}
 use Rattle.sheet.specs.Plates.{total_force, lowered_in, passes_in}
-use Rattle.sheet.proofs.Lowering.{some_none, total_force_kept, over_long, over_here, over_step, over_all}
+use Rattle.sheet.proofs.Lowering.{some_none, total_force_kept, over_here, over_step, over_all}
 use Rattle.sheet.specs.RoleSlots.{slot_with}
 use Rattle.sheet.proofs.MeasuresKept.{fits_same, fits_lower}
 use Rattle.sheet.proofs.RolePlaces.{read_note, make_note, slot-lowered}

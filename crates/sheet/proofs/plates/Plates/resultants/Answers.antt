@@ -1,5 +1,5 @@
 -- `sheet::plates::Plates::resultants` meets its contract.
-use Rattle.std.proofs.Common.{◌+◌, ◌<◌, ◌≤◌, min, length, take, sym, ap, ◌∙◌, subst, arith}
+use Rattle.std.proofs.Common.{◌<◌, ◌≤◌, min, length, subst, arith}
 use Rattle.std.proofs.lemmas.List.{take_all}
 use Rattle.section.specs.Parts.{IsResultants}
 use Rattle.section.proofs.Together.{resultants_none}

@@ -1,5 +1,5 @@
 -- `sheet::plates::Plates::take_out` meets its contract.
-use Rattle.std.proofs.Common.{◌<◌, cond, length, set, Some, None, sym, refl, ap, ◌∙◌, arith, length-set}
+use Rattle.std.proofs.Common.{◌<◌, cond, length, set, None, sym, refl, ap, ◌∙◌, arith, length-set}
 use Rattle.std.proofs.lemmas.List.{set-get_or}
 use Rattle.std.proofs.lemmas.List.Sums.{sum_by-set, get_or-le-sum_by}
 use Rattle.sheet.specs.Plates.{force_in, clash}

@@ -1,4 +1,4 @@
-use Rattle.std.proofs.Common.{◌≡◌, ◌+◌, ◌<◌, ◌≤◌, length, Some, None, sym, ap, ◌∙◌, arith, rules}
+use Rattle.std.proofs.Common.{◌<◌, ◌≤◌, length, None, sym, ap, ◌∙◌, arith}
 use Rattle.sheet.specs.Plates.{passes_in}
 use Rattle.sheet.proofs.SlotTests.{some_yes, some_no, some_end}
 use Rattle.sheet.proofs.plates.Plates.would_pass.Goals as goal

@@ -1,10 +1,9 @@
 -- `sheet::rows::Rows::type_sums` meets its contract.
-use Rattle.std.proofs.Common.{◌≡◌, ◌^◌, ◌≤◌, List, get_or, ℤ, pos, nat_abs, Option, sym, ap, ◌∙◌, subst}
+use Rattle.std.proofs.Common.{◌≡◌, ◌^◌, ◌≤◌, List, get_or, ℤ, pos, nat_abs, sym, ap, ◌∙◌, subst}
 use Rattle.loads.specs.declared.load_type.LoadType.{LoadType}
 use Rattle.loads.specs.declared.kind.EffectKind.{EffectKind}
 use Rattle.loads.specs.Factors.{index}
-use Rattle.sheet.specs.declared.row.Row.{Row}
-use Rattle.sheet.specs.Totals.{type_sum, type_sums, Small}
+use Rattle.sheet.specs.Totals.{type_sum, type_sums}
 use Rattle.sheet.proofs.Sums.{sum_read, sum_small}
 use Rattle.sheet.proofs.rows.Rows.type_sums.Goals as goal
 
