@@ -9,3 +9,4 @@ pub mod PlateSums
 pub mod PlateLevels
 pub mod MeasuresKept
 pub mod PlateForces
+pub mod TotalKept

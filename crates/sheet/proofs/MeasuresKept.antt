@@ -1,5 +1,5 @@
 -- The plates' measures after each change.
-use Rattle.std.proofs.Common.{◌≡◌, ℕ, zero, suc, ◌+◌, ◌-◌, ◌*◌, ◌^◌, ◌<◌, ◌≤◌, min, Bool, true, false, ◌&&◌, eqb, ◌⊎◌, List, [], ◌∷◌, map, length, get_or, set, replicate, Some, None, Option, sym, refl, ap, ◌∙◌, inl, inr, arith, ltb-false, eq-eqb, eqb-true}
+use Rattle.std.proofs.Common.{◌≡◌, ℕ, zero, suc, ◌+◌, ◌-◌, ◌*◌, ◌%◌, ◌^◌, ◌<◌, ◌≤◌, min, Bool, true, false, ◌&&◌, eqb, ◌⊎◌, List, [], ◌∷◌, map, length, get_or, set, replicate, Some, None, Option, sym, refl, ap, ◌∙◌, inl, inr, mul-le-mul, arith, ltb-false, eq-eqb, eqb-true}
 use Rattle.std.proofs.lemmas.List.{get_or-set_same, get_or-set_other, get_or_past}
 use Rattle.std.proofs.lemmas.Bool.{cases_eq, cases_lt}
 use Rattle.std.proofs.lemmas.Bool.Decides.{nat_tests}
@@ -13,8 +13,12 @@ use Rattle.sheet.proofs.Roles.{get_or-lowered, get_or-empties}
 use borrow.Author.Tests.{clash}
 
 -- a standing plate's breadth and yield
-pub sizes : (p : Plate) → within p ≡ true → (p.breadth ≤ 4096) × (p.fy ≤ 100000)
+sizes : (p : Plate) → within p ≡ true → (p.breadth ≤ 4096) × (p.fy ≤ 100000)
 sizes p e = (grind (arith, nat_tests), grind (arith, nat_tests))
+
+-- which its measures hold whole
+pub whole : (p : Plate) → within p ≡ true → p.breadth * p.fy % 2 ^ 32 ≡ p.breadth * p.fy
+whole p e = let z = sizes p e in let m = mul-le-mul z.0 z.1 in omega arith
 
 and_parts : (a b : Bool) → (a && b) ≡ true → (a ≡ true) × (b ≡ true)
 and_parts true b e = (refl, e)
@@ -23,16 +27,16 @@ and_parts false b e = absurd (clash e)
 pub record Fits (p : Plate) (top height strength : ℕ) : Type 0 where
   pub top_is : top ≡ p.top
   pub height_is : height ≡ p.height
-  pub strength_is : strength ≡ p.breadth * p.fy
+  pub strength_is : strength ≡ p.breadth * p.fy % 2 ^ 32
 
 pub read : (p : Plate) (t h s : ℕ) → fits_slot (Some p) t h s ≡ true → Fits p t h s
 read p t h s e =
-    let a = and_parts (eqb t p.top) (eqb h p.height && eqb s (p.breadth * p.fy)) e in
-    let b = and_parts (eqb h p.height) (eqb s (p.breadth * p.fy)) a.1 in
-    record { top_is = eqb-true t p.top a.0; height_is = eqb-true h p.height b.0; strength_is = eqb-true s (p.breadth * p.fy) b.1 }
+    let a = and_parts (eqb t p.top) (eqb h p.height && eqb s (p.breadth * p.fy % 2 ^ 32)) e in
+    let b = and_parts (eqb h p.height) (eqb s (p.breadth * p.fy % 2 ^ 32)) a.1 in
+    record { top_is = eqb-true t p.top a.0; height_is = eqb-true h p.height b.0; strength_is = eqb-true s (p.breadth * p.fy % 2 ^ 32) b.1 }
 
-make : (p : Plate) (t h s : ℕ) → t ≡ p.top → h ≡ p.height → s ≡ p.breadth * p.fy → fits_slot (Some p) t h s ≡ true
-make p t h s a b d = rw (eq-eqb t p.top a, eq-eqb h p.height b, eq-eqb s (p.breadth * p.fy) d) refl
+make : (p : Plate) (t h s : ℕ) → t ≡ p.top → h ≡ p.height → s ≡ p.breadth * p.fy % 2 ^ 32 → fits_slot (Some p) t h s ≡ true
+make p t h s a b d = rw (eq-eqb t p.top a, eq-eqb h p.height b, eq-eqb s (p.breadth * p.fy % 2 ^ 32) d) refl
 
 -- the same lists by other names
 pub fits_same : (xs ys : List (Option Plate)) (ts hs ss us vs ws : List ℕ) → ys ≡ xs → us ≡ ts → vs ≡ hs → ws ≡ ss → ((i : ℕ) → fits_slot (content xs i) (get_or ts i 0) (get_or hs i 0) (get_or ss i 0) ≡ true) →
@@ -40,12 +44,12 @@ pub fits_same : (xs ys : List (Option Plate)) (ts hs ss us vs ws : List ℕ) →
 fits_same xs ys ts hs ss us vs ws a b d e all i = rw (a, b, d, e) (all i)
 
 pub fits_put : (xs : List (Option Plate)) (ts hs ss : List ℕ) (s : ℕ) (p : Plate) → s < length xs → s < length ts → s < length hs → s < length ss → ((i : ℕ) → fits_slot (content xs i) (get_or ts i 0) (get_or hs i 0) (get_or ss i 0) ≡ true) →
-    (i : ℕ) → fits_slot (content (set xs s (Some p)) i) (get_or (set ts s p.top) i 0) (get_or (set hs s p.height) i 0) (get_or (set ss s (p.breadth * p.fy)) i 0) ≡ true
+    (i : ℕ) → fits_slot (content (set xs s (Some p)) i) (get_or (set ts s p.top) i 0) (get_or (set hs s p.height) i 0) (get_or (set ss s (p.breadth * p.fy % 2 ^ 32)) i 0) ≡ true
 fits_put xs ts hs ss s p a b d e all i = go (cases_eq i s)
   where
-    go : (i ≡ s) ⊎ (i ≡ s → ⊥) → fits_slot (content (set xs s (Some p)) i) (get_or (set ts s p.top) i 0) (get_or (set hs s p.height) i 0) (get_or (set ss s (p.breadth * p.fy)) i 0) ≡ true
-    go (inl q) = rw (q, get_or-set_same xs s (Some p) None a) (make p _ _ _ (get_or-set_same ts s p.top 0 b) (get_or-set_same hs s p.height 0 d) (get_or-set_same ss s (p.breadth * p.fy) 0 e))
-    go (inr q) = rw (get_or-set_other xs s i (Some p) None q, get_or-set_other ts s i p.top 0 q, get_or-set_other hs s i p.height 0 q, get_or-set_other ss s i (p.breadth * p.fy) 0 q) (all i)
+    go : (i ≡ s) ⊎ (i ≡ s → ⊥) → fits_slot (content (set xs s (Some p)) i) (get_or (set ts s p.top) i 0) (get_or (set hs s p.height) i 0) (get_or (set ss s (p.breadth * p.fy % 2 ^ 32)) i 0) ≡ true
+    go (inl q) = rw (q, get_or-set_same xs s (Some p) None a) (make p _ _ _ (get_or-set_same ts s p.top 0 b) (get_or-set_same hs s p.height 0 d) (get_or-set_same ss s (p.breadth * p.fy % 2 ^ 32) 0 e))
+    go (inr q) = rw (get_or-set_other xs s i (Some p) None q, get_or-set_other ts s i p.top 0 q, get_or-set_other hs s i p.height 0 q, get_or-set_other ss s i (p.breadth * p.fy % 2 ^ 32) 0 q) (all i)
 
 pub fits_out : (xs : List (Option Plate)) (ts hs ss : List ℕ) (s : ℕ) → s < length xs → s < length hs → ((i : ℕ) → fits_slot (content xs i) (get_or ts i 0) (get_or hs i 0) (get_or ss i 0) ≡ true) →
     (i : ℕ) → fits_slot (content (set xs s None) i) (get_or ts i 0) (get_or (set hs s 0) i 0) (get_or ss i 0) ≡ true

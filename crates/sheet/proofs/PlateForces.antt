@@ -13,7 +13,7 @@ use Rattle.sheet.specs.Invariants.{Within, within, within_in}
 use Rattle.sheet.specs.PlateStrips.{slot_strips, plate_strips}
 use Rattle.sheet.specs.PlateLaws.{foot, strips-sum}
 use Rattle.sheet.specs.Measures.{fits_slot}
-use Rattle.sheet.proofs.MeasuresKept.{read}
+use Rattle.sheet.proofs.MeasuresKept.{whole, read}
 use Rattle.sheet.proofs.PlateSums.{front_le, next}
 
 -- no strips
@@ -48,7 +48,7 @@ module _ (xs : List (Option Plate)) (i k : ℕ) (h : i < length xs) where
           above_none k ∙ sym (ap (λ m. s * m) z ∙ mul-zero s)
       go (Some p) w fits =
           let r = read p t a s fits in
-          rw (q, r.top_is, r.height_is, r.strength_is) (sym (plate_above p level w))
+          rw (q, r.top_is, r.height_is, r.strength_is, whole p w) (sym (plate_above p level w))
 
 -- some of the plates give no more than all of them
 pub above_front : (xs : List (Option Plate)) → Within xs → (n level : ℕ) → force_above (plate_strips (take n xs)) (min level 4096) ≤ total_force xs

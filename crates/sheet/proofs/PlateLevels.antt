@@ -1,11 +1,9 @@
 -- One plate's depth, and what it gives at a level.
 use Rattle.std.proofs.Common.{◌≡◌, ℕ, ◌+◌, ◌-◌, ◌*◌, ◌^◌, ◌≤◌, true, Some, subst, mul-le-mul_left, arith}
-use Rattle.std.proofs.lemmas.Nat.{mul-le}
-use Rattle.std.proofs.lemmas.Bool.Decides.{nat_tests}
 use Rattle.section.specs.declared.sense.Sense.{Sense}
 use Rattle.section.specs.Blocks.{block_strip, IsBetween}
-use Rattle.section.specs.Parts.{IsDepth, IsResultants}
-use Rattle.section.proofs.ClosedForm.{block_depth, is_above, is_below}
+use Rattle.section.specs.Parts.{IsResultants}
+use Rattle.section.proofs.ClosedForm.{is_above, is_below}
 use Rattle.section.proofs.Together.{halves_alike}
 use Rattle.sheet.specs.declared.plate.Plate.{Plate}
 use Rattle.sheet.specs.Plates.{force}
@@ -39,15 +37,6 @@ part_light p d l light = let m = mul-le-mul_left (p.breadth * p.fy) l in omega a
 pub moved_between : {v w m near n far : ℕ} (r : ℕ × ℕ) → v ≡ w → m ≡ near → n ≡ far → IsBetween v m n r → IsBetween w near far r
 moved_between {v} {w} {m} {near} {n} {far} r a b c x =
     subst (λ (i : ℕ). IsBetween i near far r) a (subst (λ (i : ℕ). IsBetween v i far r) b (subst (λ (i : ℕ). IsBetween v m i r) c x))
-
-pub foot_depth : (p : Plate) → within p ≡ true → IsDepth (slot_strips (Some p)) (slot_strips (Some p)) (p.top + p.height)
-foot_depth p e =
-    let b : 1 ≤ p.breadth = grind (arith, nat_tests) in
-    let h : 1 ≤ p.height = grind (arith, nat_tests) in
-    let f : 1 ≤ p.fy = grind (arith, nat_tests) in
-    let w = mul-le 1 1 p.breadth p.fy b f in
-    let a = mul-le 1 1 (p.breadth * p.fy) p.height (omega arith) h in
-    block_depth p.top p.height (p.breadth * p.fy) (omega arith)
 
 module _ (p : Plate) (inside : within p ≡ true) (k : ℕ) (shallow : k ≤ 4096) (x y : ℕ × ℕ)
     (above : IsBetween (p.breadth * p.fy) (k - (p.top + p.height)) (k - p.top) x) (below : IsBetween (p.breadth * p.fy) (p.top - k) (p.top + p.height - k) y) where

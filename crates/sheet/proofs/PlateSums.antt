@@ -1,5 +1,5 @@
 -- The plates' strips, one slot after another.
-use Rattle.std.proofs.Common.{◌≡◌, ℕ, zero, suc, ◌+◌, ◌^◌, ◌<◌, ◌≤◌, min, max, true, List, [], ◌∷◌, ◌++◌, length, get_or, take, Some, None, Option, sym, ap, ◌∙◌, subst, arith}
+use Rattle.std.proofs.Common.{◌≡◌, ℕ, zero, suc, ◌+◌, ◌*◌, ◌^◌, ◌<◌, ◌≤◌, min, max, true, List, [], ◌∷◌, ◌++◌, length, get_or, take, Some, None, Option, sym, ap, ◌∙◌, subst, arith}
 use mathlib.Core.Path.{fun_ext}
 use native.Mathlib.Nat.{max_comm}
 use Rattle.std.proofs.lemmas.List.{take_more}
@@ -7,7 +7,9 @@ use Rattle.std.proofs.lemmas.List.Sums.{get_or-le-sum_by}
 use Rattle.section.specs.declared.sense.Sense.{Sense}
 use Rattle.section.specs.declared.sense.Sense.TheVariants.{Sagging}
 use Rattle.section.specs.declared.resultants.Resultants.{Resultants}
+use Rattle.section.specs.declared.block.Block.{Block}
 use Rattle.section.specs.Strips.{sum_to, ◌⊕◌}
+use Rattle.section.specs.Blocks.{block_strip, strips}
 use Rattle.section.specs.Sums.{sum_to_le}
 use Rattle.section.specs.Parts.{IsDepth, IsResultants}
 use Rattle.section.proofs.Together.{resultants_small, resultants_both, depth_both}
@@ -25,6 +27,15 @@ pub front_le : (n : ℕ) (xs : List (Option Plate)) (i : ℕ) → plate_strips (
 front_le zero xs i = omega arith
 front_le (suc n) [] i = omega arith
 front_le (suc n) (x ∷ xs) i = let r = front_le n xs i in omega arith
+
+-- what one block that is a plate has in each strip
+pub record IsBlock (p : Plate) (b : Block) : Type 0 where
+  pub top : b.top ≡ p.top
+  pub height : b.height ≡ p.height
+  pub strength : b.strength ≡ p.breadth * p.fy
+
+pub block_strips : (p : Plate) (b : Block) → IsBlock p b → strips b ≡ slot_strips (Some p)
+block_strips p b e = λ i. block_strip (e.top i) (e.height i) (e.strength i)
 
 pub moved_level : (f : ℕ → ℕ) (a k : ℕ) (t : Resultants) → a ≡ k → ((s : Sense) → IsResultants s f f a t) → (s : Sense) → IsResultants s f f k t
 moved_level f a k t e x s = subst (λ (n : ℕ). IsResultants s f f n t) e (x s)

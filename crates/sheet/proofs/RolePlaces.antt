@@ -1,17 +1,15 @@
 -- Where the plates of roles 1, 2 and 3 stand, after each change.
-use Rattle.std.proofs.Common.{◌≡◌, ℕ, zero, suc, ◌<◌, ◌≤◌, Bool, true, false, cond, ◌||◌, ◌⊎◌, List, [], ◌∷◌, length, set, is_some, Some, None, Option, sym, refl, ap, ◌∙◌, subst, inl, inr, arith}
-use Rattle.std.proofs.lemmas.Bool.{or_parts, cases_eq, cases_lt}
-use Rattle.std.proofs.lemmas.List.{get_or-set_same, get_or-set_other}
+use Rattle.std.proofs.Common.{◌≡◌, ℕ, zero, suc, ◌+◌, ◌<◌, ◌≤◌, min, Bool, true, false, cond, ◌||◌, List, [], ◌∷◌, length, get_or, drop, set, is_some, Some, None, Option, sym, refl, ap, ◌∙◌, subst, arith}
+use Rattle.std.proofs.lemmas.List.{at_drop_more, at_drop_all}
 use Rattle.std.specs.Option.{option_map}
 use Rattle.sheet.specs.declared.plate.Role.{Role}
 use Rattle.sheet.specs.declared.plate.Role.TheVariants.{TopFlange, Web, BottomFlange, Other}
 use Rattle.sheet.specs.declared.plate.Plate.{Plate}
 use Rattle.sheet.specs.Slots.{empties, content}
 use Rattle.sheet.specs.Plates.{clash, clash_in, stands, same_role, standing, lowered_in, lowered}
-use Rattle.sheet.specs.Invariants.{Once, clash_of}
 use Rattle.sheet.specs.declared.role_slots.RoleSlots.{RoleSlots}
-use Rattle.sheet.specs.RoleSlots.{noted, slot_with, same_slot, Noted}
-use Rattle.sheet.proofs.Roles.{clash_sym, clash_of_sym}
+use Rattle.sheet.specs.RoleSlots.{noted, earlier, slot_with, same_slot, Noted}
+use Rattle.sheet.proofs.Roles.{clash_sym}
 use borrow.Author.Tests as tests
 
 same_is : (a b : Option ℕ) → same_slot a b ≡ true → a ≡ b
@@ -117,17 +115,61 @@ slot_inside r (x ∷ xs) = below_next (clash_in r x) (slot_with r xs) (length xs
 pub slot_below : (r : Role) (xs : List (Option Plate)) (i : ℕ) → Some i ≡ slot_with r xs → i < length xs
 slot_below r xs i e = subst (λ (o : Option ℕ). Below o (length xs)) (sym e) (slot_inside r xs)
 
+-- a slot counted from i on
+abbrev pub counted : ℕ → Option ℕ → Option ℕ
+counted i None = None
+counted i (Some j) = Some (i + j)
+
+counted_suc : (i : ℕ) (o : Option ℕ) → counted i (option_map suc o) ≡ counted (i + 1) o
+counted_suc i None = refl
+counted_suc i (Some j) = ap Some (let z : i + suc j ≡ i + 1 + j = omega arith in z)
+
+counted_zero : (o : Option ℕ) → o ≡ counted 0 o
+counted_zero None = refl
+counted_zero (Some j) = ap Some (let z : j ≡ 0 + j = omega arith in z)
+
+-- looking for a role's first slot, one slot after another
+module _ (r : Role) (xs : List (Option Plate)) where
+  pub slot_start : slot_with r xs ≡ counted 0 (slot_with r (drop 0 xs))
+  slot_start = counted_zero (slot_with r xs)
+
+  pub slot_end : (i : ℕ) → length xs ≤ i → slot_with r xs ≡ counted i (slot_with r (drop i xs)) → None ≡ slot_with r xs
+  slot_end i h e = sym (e ∙ ap (counted i) (at_drop_all (slot_with r) xs i h))
+
+  module _ (i : ℕ) (h : i < length xs) (x : Option Plate) (is : get_or xs i None ≡ x) (e : slot_with r xs ≡ counted i (slot_with r (drop i xs))) where
+    from_slot : slot_with r (drop i xs) ≡ slot_with r (x ∷ drop (i + 1) xs)
+    from_slot = at_drop_more (slot_with r) xs i None h ∙ ap (λ (y : Option Plate). slot_with r (y ∷ drop (i + 1) xs)) is
+
+    with_test : (b : Bool) → clash_in r x ≡ b → slot_with r xs ≡ counted i (cond b (Some 0) (option_map suc (slot_with r (drop (i + 1) xs))))
+    with_test b t = e ∙ ap (counted i) (from_slot ∙ ap (λ (b : Bool). cond b (Some 0) (option_map suc (slot_with r (drop (i + 1) xs)))) t)
+
+    pub slot_found : clash_in r x ≡ true → Some i ≡ slot_with r xs
+    slot_found t = sym (with_test true t ∙ ap Some (let z : i + 0 ≡ i = omega arith in z))
+
+    pub slot_passed : clash_in r x ≡ false → slot_with r xs ≡ counted (i + 1) (slot_with r (drop (i + 1) xs))
+    slot_passed t = with_test false t ∙ counted_suc i (slot_with r (drop (i + 1) xs))
+
 unclashed : (r : Role) (xs : List (Option Plate)) (s : ℕ) (v : Option Plate) → clash_in r v ≡ false → clash_in r (content xs s) ≡ false → slot_with r (set xs s v) ≡ slot_with r xs
 unclashed r [] s v e f = refl
 unclashed r (x ∷ xs) zero v e f = ap (λ (b : Bool). cond b (Some 0) (option_map suc (slot_with r xs))) (e ∙ sym f)
 unclashed r (x ∷ xs) (suc s) v e f = ap (λ (o : Option ℕ). cond (clash_in r x) (Some 0) (option_map suc o)) (unclashed r xs s v e f)
 
-clashed : (r : Role) (xs : List (Option Plate)) (s : ℕ) (v : Option Plate) → s < length xs → clash_in r v ≡ true → stands r xs ≡ false → slot_with r (set xs s v) ≡ Some s
+-- the slot behind a first one that clashes or does not
+later : (b : Bool) (s : ℕ) (o q : Option ℕ) → q ≡ Some (earlier s o) → cond b (Some 0) (option_map suc q) ≡ Some (earlier (suc s) (cond b (Some 0) (option_map suc o)))
+later true s o q e = ap Some (let z : 0 ≡ min 0 (suc s) = omega arith in z)
+later false s None q e = ap (option_map suc) e
+later false s (Some i) q e = ap (option_map suc) e ∙ ap Some (let z : suc (min i s) ≡ min (suc i) (suc s) = omega arith in z)
+
+at_front : (o : Option ℕ) → ◌≡◌ {A = Option ℕ} (Some 0) (Some (earlier 0 (option_map suc o)))
+at_front None = refl
+at_front (Some i) = ap Some (let z : 0 ≡ min (suc i) 0 = omega arith in z)
+
+clashed : (r : Role) (xs : List (Option Plate)) (s : ℕ) (v : Option Plate) → s < length xs → clash_in r v ≡ true → clash_in r (content xs s) ≡ false → slot_with r (set xs s v) ≡ Some (earlier s (slot_with r xs))
 clashed r [] s v h e f = absurd (omega arith)
-clashed r (x ∷ xs) zero v h e f = ap (λ (b : Bool). cond b (Some 0) (option_map suc (slot_with r xs))) e
-clashed r (x ∷ xs) (suc s) v h e f =
-    let parts = or_parts (clash_in r x) (stands r xs) f in
-    ap (λ (b : Bool). cond b (Some 0) (option_map suc (slot_with r (set xs s v)))) parts.0 ∙ ap (option_map suc) (clashed r xs s v (omega arith) e parts.1)
+clashed r (x ∷ xs) zero v h e f =
+    ap (λ (b : Bool). cond b (Some 0) (option_map suc (slot_with r xs))) e ∙ at_front (slot_with r xs)
+    ∙ ap (λ (b : Bool). Some (earlier 0 (cond b (Some 0) (option_map suc (slot_with r xs))))) (sym f)
+clashed r (x ∷ xs) (suc s) v h e f = later (clash_in r x) s (slot_with r xs) (slot_with r (set xs s v)) (clashed r xs s v (omega arith) e f)
 
 clash_same : (a b : Role) → clash a b ≡ true → a ≡ b
 clash_same TopFlange TopFlange e = refl
@@ -144,44 +186,22 @@ clash_same BottomFlange BottomFlange e = refl
 clash_same BottomFlange Other e = absurd (tests.clash e)
 clash_same Other b e = absurd (tests.clash e)
 
-none_of_plates : (o : Option Plate) → is_some o ≡ false → o ≡ None
-none_of_plates None e = refl
-none_of_plates (Some p) e = absurd (tests.clash (sym e))
-
--- placing
-pub slot_put : (xs : List (Option Plate)) (s : ℕ) (p : Plate) → s < length xs → is_some (content xs s) ≡ false → stands p.role xs ≡ false →
-    (r : Role) → cond (clash p.role r) (Some s) (slot_with r xs) ≡ slot_with r (set xs s (Some p))
-slot_put xs s p h empty apart r = go (clash p.role r) refl
+-- a plate of a role is put into an empty slot
+pub slot_put : (xs : List (Option Plate)) (s : ℕ) (p : Plate) → s < length xs → content xs s ≡ None →
+    (r : Role) → cond (clash p.role r) (Some (earlier s (slot_with p.role xs))) (slot_with r xs) ≡ slot_with r (set xs s (Some p))
+slot_put xs s p h empty r = go (clash p.role r) refl
   where
-    go : (b : Bool) → clash p.role r ≡ b → cond b (Some s) (slot_with r xs) ≡ slot_with r (set xs s (Some p))
+    go : (b : Bool) → clash p.role r ≡ b → cond b (Some (earlier s (slot_with p.role xs))) (slot_with r xs) ≡ slot_with r (set xs s (Some p))
     go true e =
-        let q : stands r xs ≡ false = ap (λ (a : Role). stands a xs) (sym (clash_same p.role r e)) ∙ apart in
-        sym (clashed r xs s (Some p) h (clash_sym r p.role ∙ e) q)
-    go false e = sym (unclashed r xs s (Some p) (clash_sym r p.role ∙ e) (ap (clash_in r) (none_of_plates (content xs s) empty)))
+        ap (λ (a : Role). Some (earlier s (slot_with a xs))) (clash_same p.role r e)
+        ∙ sym (clashed r xs s (Some p) h (clash_sym r p.role ∙ e) (ap (clash_in r) empty))
+    go false e = sym (unclashed r xs s (Some p) (clash_sym r p.role ∙ e) (ap (clash_in r) empty))
 
-none_stands : (r : Role) (xs : List (Option Plate)) → ((i : ℕ) → clash_in r (content xs i) ≡ false) → stands r xs ≡ false
-none_stands r [] e = refl
-none_stands r (x ∷ xs) e = ap (λ (b : Bool). b || stands r xs) (e 0) ∙ none_stands r xs (λ i. e (suc i))
-
--- lifting
-module _ (xs : List (Option Plate)) (s : ℕ) (p : Plate) (h : s < length xs) (is : content xs s ≡ Some p) (once : Once xs) where
-  alone : (i : ℕ) → (i ≡ s → ⊥) → clash_in p.role (content xs i) ≡ false
-  alone i n = go (cases_lt i s)
-    where
-      go : (i < s) ⊎ (s ≤ i) → clash_in p.role (content xs i) ≡ false
-      go (inl l) = sym (clash_of_sym (content xs i) p) ∙ ap (clash_of (content xs i)) (sym is) ∙ once i s l
-      go (inr l) = let k : s < i = omega arith in ap (λ (o : Option Plate). clash_of o (content xs i)) (sym is) ∙ once s i k
-
-  lifted : (i : ℕ) → clash_in p.role (content (set xs s None) i) ≡ false
-  lifted i = go (cases_eq i s)
-    where
-      go : (i ≡ s) ⊎ (i ≡ s → ⊥) → clash_in p.role (content (set xs s None) i) ≡ false
-      go (inl a) = ap (clash_in p.role) (ap (λ (k : ℕ). content (set xs s None) k) a ∙ get_or-set_same xs s None None h)
-      go (inr a) = ap (clash_in p.role) (get_or-set_other xs s i None None a) ∙ alone i a
-
-  pub slot_out : (r : Role) → cond (clash p.role r) None (slot_with r xs) ≡ slot_with r (set xs s None)
-  slot_out r = go (clash p.role r) refl
-    where
-      go : (b : Bool) → clash p.role r ≡ b → cond b None (slot_with r xs) ≡ slot_with r (set xs s None)
-      go true e = sym (ap (λ (a : Role). slot_with a (set xs s None)) (sym (clash_same p.role r e)) ∙ no_slot p.role (set xs s None) (none_stands p.role (set xs s None) lifted))
-      go false e = sym (unclashed r xs s None refl (ap (clash_in r) is ∙ clash_sym r p.role ∙ e))
+-- a plate is taken out, and its role looked for anew
+pub slot_out : (xs : List (Option Plate)) (s : ℕ) (p : Plate) → content xs s ≡ Some p →
+    (r : Role) → cond (clash p.role r) (slot_with p.role (set xs s None)) (slot_with r xs) ≡ slot_with r (set xs s None)
+slot_out xs s p is r = go (clash p.role r) refl
+  where
+    go : (b : Bool) → clash p.role r ≡ b → cond b (slot_with p.role (set xs s None)) (slot_with r xs) ≡ slot_with r (set xs s None)
+    go true e = ap (λ (a : Role). slot_with a (set xs s None)) (clash_same p.role r e)
+    go false e = sym (unclashed r xs s None refl (ap (clash_in r) is ∙ clash_sym r p.role ∙ e))

@@ -1,5 +1,5 @@
 -- Where the plates of roles 1, 2 and 3 stand.
-use Rattle.std.specs.Prelude.{◌≡◌, ℕ, suc, Bool, true, false, cond, List, [], ◌∷◌, Some, None, Option, ◌==◌}
+use Rattle.std.specs.Prelude.{◌≡◌, ℕ, suc, min, Bool, true, false, cond, List, [], ◌∷◌, Some, None, Option, ◌==◌}
 use Rattle.std.specs.Option.{option_map}
 use Rattle.sheet.specs.declared.plate.Role.{Role}
 use Rattle.sheet.specs.declared.plate.Role.TheVariants.{TopFlange, Web, BottomFlange, Other}
@@ -13,6 +13,11 @@ noted TopFlange s = s.top_flange
 noted Web s = s.web
 noted BottomFlange s = s.bottom_flange
 noted Other s = None
+
+-- the lesser of a slot and one that may be none
+abbrev pub earlier : ℕ → Option ℕ → ℕ
+earlier s None = s
+earlier s (Some i) = min i s
 
 -- the first slot whose plate a role may not join
 abbrev pub slot_with : Role → List (Option Plate) → Option ℕ

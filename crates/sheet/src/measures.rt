@@ -1,6 +1,5 @@
 // The plates' measures in plain arrays, so that a sum over the slots has no branch.
-ghost use Rattle.std.specs.Prelude.{◌≡◌, ◌+◌, ◌-◌, ◌*◌, ◌^◌, ◌<◌, min, true, map, length, replicate, slice_index, slice_set};
-ghost use Rattle.sheet.specs.Invariants.{within};
+ghost use Rattle.std.specs.Prelude.{◌≡◌, ◌+◌, ◌-◌, ◌*◌, ◌%◌, ◌^◌, ◌<◌, min, map, length, replicate, slice_index, slice_set};
 
 use crate::plate::Plate;
 
@@ -9,7 +8,7 @@ pub struct Measures {
     tops: [u16; 24],
     // 0 for an empty slot
     heights: [u16; 24],
-    // breadth × yield
+    // breadth × yield, modulo 2^32: no bound is asked of a plate here
     strengths: [u32; 24],
     ghost topped: { length tops ≡ 24 },
     ghost sized: { length heights ≡ 24 },
@@ -28,15 +27,14 @@ impl Measures {
     }
 
     pub(crate) fn note(&mut self, slot: u8, plate: &Plate)
-        requires inside { slot < 24 }
-        requires lawful { within plate.now ≡ true }
+        requires { slot < 24 }
         ensures tops { self.new.tops ≡ slice_set self.old.tops slot plate.now.top }
         ensures heights { self.new.heights ≡ slice_set self.old.heights slot plate.now.height }
-        ensures strengths { self.new.strengths ≡ slice_set self.old.strengths slot (plate.now.breadth * plate.now.fy) }
+        ensures strengths { self.new.strengths ≡ slice_set self.old.strengths slot (plate.now.breadth * plate.now.fy % 2 ^ 32) }
     {
         self.tops[slot as usize] = plate.top;
         self.heights[slot as usize] = plate.height;
-        self.strengths[slot as usize] = u32::from(plate.breadth) * plate.fy;
+        self.strengths[slot as usize] = u32::from(plate.breadth).wrapping_mul(plate.fy);
     }
 
     pub(crate) fn clear(&mut self, slot: u8)

@@ -52,6 +52,14 @@ impl Role {
     {
         self.number() == other.number()
     }
+
+    // Whether the two may not both stand.
+    pub(crate) fn clashes(self, other: Role) -> bool
+        ensures { result ≡ plates.clash self other }
+    {
+        let number = self.number();
+        number < 4 && number == other.number()
+    }
 }
 
 impl PlateInput {

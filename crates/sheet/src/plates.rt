@@ -1,10 +1,9 @@
 // The plate slots.
-ghost use Rattle.std.specs.Prelude.{◌≡◌, ◌+◌, ◌^◌, ◌<◌, ◌≤◌, true, false, length, Some, None, slice_set};
+ghost use Rattle.std.specs.Prelude.{◌≡◌, ◌%◌, ◌^◌, ◌<◌, ◌≤◌, false, length, Some, None, slice_set};
 ghost use Rattle.sheet.specs.Slots.{empties, full, content};
-ghost use Rattle.sheet.specs.Invariants.{Once, within};
-ghost use Rattle.sheet.specs.RoleSlots.{Noted};
+ghost use Rattle.sheet.specs.RoleSlots.{slot_with, Noted};
 ghost use Rattle.sheet.specs.Measures.{Measured};
-ghost use Rattle.sheet.specs.Plates.{force, total_force, stands, standing, passes, lowered};
+ghost use Rattle.sheet.specs.Plates.{total_force, stands, standing, passes, lowered};
 
 use crate::measures::Measures;
 use crate::plate::{Plate, Role};
@@ -13,14 +12,29 @@ use crate::role_slots::RoleSlots;
 #[derive(Clone, Copy)]
 pub struct Plates {
     pub(crate) slots: [Option<Plate>; 24],
-    // the sum of breadth × height × yield over the standing plates
+    // the sum of breadth × height × yield over the standing plates, modulo 2^64: no bound is asked of them here
     total: u64,
     roles: RoleSlots,
     pub(crate) measures: Measures,
     ghost long: { length slots ≡ 24 },
-    ghost totalled: { total ≡ total_force slots },
+    ghost totalled: { total ≡ total_force slots % 2 ^ 64 },
     ghost placed: { Noted roles slots },
     ghost measured: { Measured measures slots },
+}
+
+// The first slot whose plate a role may not join.
+fn first_slot(slots: &[Option<Plate>], role: Role) -> Option<u8>
+    requires { length slots.now ≤ 256 }
+    ensures { result ≡ slot_with role slots.now }
+{
+    for (slot, held) in slots.iter().enumerate() {
+        if let Some(plate) = held {
+            if role.clashes(plate.role) {
+                return Some(slot as u8);
+            }
+        }
+    }
+    None
 }
 
 impl Plates {
@@ -50,34 +64,33 @@ impl Plates {
     }
 
     pub(crate) fn put(&mut self, slot: u8, plate: Plate)
-        requires within { slot < 24 }
-        requires empty { full self.old.slots slot ≡ false }
-        requires lawful { within plate ≡ true }
-        requires apart { stands plate.role self.old.slots ≡ false }
-        requires light { total_force self.old.slots + force plate ≤ 2 ^ 36 }
+        requires { slot < 24 }
         ensures { self.new.slots ≡ slice_set self.old.slots slot (Some plate) }
     {
-        self.total += plate.force();
-        self.roles.note(plate.role, Some(slot));
+        self.take_out(slot);
+        self.total = self.total.wrapping_add(plate.force());
+        let first = self.roles.first(plate.role, slot);
+        self.roles.note(plate.role, Some(first));
         self.measures.note(slot, &plate);
         self.slots[slot as usize] = Some(plate);
     }
 
     pub(crate) fn take_out(&mut self, slot: u8)
-        requires within { slot < 24 }
-        requires once { Once self.old.slots }
+        requires { slot < 24 }
         ensures { self.new.slots ≡ slice_set self.old.slots slot None }
     {
         if let Some(plate) = self.get(slot) {
-            self.total -= plate.force();
-            self.roles.note(plate.role, None);
+            self.total = self.total.wrapping_sub(plate.force());
             self.measures.clear(slot);
             self.slots[slot as usize] = None;
+            let next = first_slot(&self.slots, plate.role);
+            self.roles.note(plate.role, next);
         }
     }
 
     // The sum of breadth × height × yield over the standing plates.
     pub(crate) fn total_force(&self) -> u64
+        requires { total_force self.now.slots ≤ 2 ^ 36 }
         ensures { result ≡ total_force self.now.slots }
     {
         self.total

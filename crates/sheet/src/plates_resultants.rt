@@ -9,7 +9,7 @@ ghost use Rattle.sheet.specs.PlateStrips.{slot_strips, plate_strips};
 
 use crate::plate::Plate;
 use crate::plates::Plates;
-use section::{LOWEST, Resultants};
+use section::{Block, LOWEST, Resultants};
 
 // The force and the moment about a level of strips of one strength on one side of it, by the ways from the level to their nearer and their farther end.
 fn on_one_side(strength: u64, near: u64, far: u64) -> (u64, u64)
@@ -24,12 +24,22 @@ fn on_one_side(strength: u64, near: u64, far: u64) -> (u64, u64)
 }
 
 impl Plate {
-    // The level of its foot, below which it has no strip.
-    fn foot(&self) -> u16
-        requires { within self.now ≡ true }
-        ensures { IsDepth (slot_strips (Some self.now)) (slot_strips (Some self.now)) result }
+    // The plate as a block of strips, each with the force breadth × yield.
+    fn block(&self) -> Block
+        requires inside { within self.now ≡ true }
+        requires light { force self.now ≤ 2 ^ 36 }
+        ensures top { result.top ≡ self.now.top }
+        ensures height { result.height ≡ self.now.height }
+        ensures strength { result.strength ≡ self.now.breadth * self.now.fy }
     {
-        self.top + self.height
+        match Block::new(
+            self.top,
+            self.height,
+            u64::from(self.breadth) * u64::from(self.fy),
+        ) {
+            Some(block) => block,
+            None => unreachable(),
+        }
     }
 
     // What it gives at a level, in either sense: each of its strips has the force breadth × yield.
@@ -70,7 +80,7 @@ impl Plates {
         let mut deepest = 0;
         for slot in &self.slots {
             if let Some(plate) = slot {
-                deepest = plate.foot().max(deepest);
+                deepest = plate.block().depth().max(deepest);
             }
         }
         deepest

@@ -2,7 +2,7 @@
 ghost use Rattle.std.specs.Prelude.{◌≡◌, if◌then◌else◌, None};
 ghost use Rattle.sheet.specs.declared.plate.Role.{Role as Roles};
 ghost use Rattle.sheet.specs.Plates.{clash};
-ghost use Rattle.sheet.specs.RoleSlots.{noted};
+ghost use Rattle.sheet.specs.RoleSlots.{noted, earlier};
 
 use crate::plate::Role;
 
@@ -33,6 +33,16 @@ impl RoleSlots {
             Role::Web => self.web,
             Role::BottomFlange => self.bottom_flange,
             Role::Other => None,
+        }
+    }
+
+    // The first slot of a role, were one of its plates in this slot too.
+    pub(crate) fn first(&self, role: Role, slot: u8) -> u8
+        ensures { result ≡ earlier slot (noted role self.now) }
+    {
+        match self.get(role) {
+            Some(first) => first.min(slot),
+            None => slot,
         }
     }
 

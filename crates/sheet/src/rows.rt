@@ -1,5 +1,5 @@
 // The effect slots.
-ghost use Rattle.std.specs.Prelude.{◌≡◌, ◌^◌, ◌<◌, ◌≤◌, false, length, pos, Some, None, slice_index_or, slice_set, unsigned_abs};
+ghost use Rattle.std.specs.Prelude.{◌≡◌, ◌^◌, ◌<◌, ◌≤◌, length, pos, Some, None, slice_index_or, slice_set, unsigned_abs};
 ghost use Rattle.loads.specs.declared.load_type.LoadType.{LoadType as LoadTypes};
 ghost use Rattle.loads.specs.declared.kind.EffectKind.TheVariants.{Moment, Shear};
 ghost use Rattle.loads.specs.Factors.{index};
@@ -47,10 +47,10 @@ impl Rows {
     }
 
     pub(crate) fn put(&mut self, slot: u8, row: Row)
-        requires within { slot < 64 }
-        requires empty { full self.old.slots slot ≡ false }
+        requires { slot < 64 }
         ensures { self.new.slots ≡ slice_set self.old.slots slot (Some row) }
     {
+        self.take_out(slot);
         let load = row.load.index();
         self.moments[load] += row.of_kind(EffectKind::Moment);
         self.shears[load] += row.of_kind(EffectKind::Shear);

@@ -2,25 +2,14 @@
 use Rattle.std.proofs.Common.{◌<◌, length, set, Some, sym, ap, ◌∙◌, subst, arith}
 use Rattle.sheet.specs.declared.plate.Plate.{Plate}
 use Rattle.sheet.specs.Plates.{plate_of, force, stands}
-use Rattle.sheet.specs.Invariants.{Light, Within, Once, within}
-use Rattle.sheet.proofs.Kept.{lawful_force, within_lawful, light_put, within_put}
+use Rattle.sheet.specs.Invariants.{Light, Within, Once}
+use Rattle.sheet.proofs.Kept.{lawful_force, light_put, within_put}
 use Rattle.sheet.proofs.Roles.{once_put}
 use Rattle.sheet.proofs.held.Sheet.try_place.Goals as goal
 
 pub overflow_add-total_force : goal.overflow_add-total_force
 overflow_add-total_force c =
     omega (arith, lawful_force c.args.plate (sym c.if-not-is_lawful.ensures), ap force c.plate-plate.ensures, c.args.self.now.light)
-
-pub put-requires : goal.put-requires
-put-requires c =
-    let is = c.plate-plate.ensures in
-    record {
-      within = omega arith;
-      empty = sym c.if-is_full.ensures;
-      lawful = ap within is ∙ within_lawful c.args.plate (sym c.if-not-is_lawful.ensures);
-      apart = sym c.if-has_role.ensures;
-      light = omega (arith, c.total_force.ensures, c.force.ensures, c.if-total_force-force-gt-STRONGEST.false);
-    }
 
 pub invariant_of-self : goal.invariant_of-self
 invariant_of-self c =

@@ -4,19 +4,19 @@ use Rattle.std.proofs.lemmas.List.{take_all}
 use Rattle.section.specs.Parts.{IsDepth}
 use Rattle.section.proofs.Together.{depth_none}
 use Rattle.sheet.specs.PlateStrips.{plate_strips}
-use Rattle.sheet.proofs.PlateSums.{plate_kept, next_none, depth_next}
+use Rattle.sheet.proofs.PlateSums.{plate_kept, block_strips, next_none, depth_next}
 use Rattle.sheet.proofs.plates.Plates.depth.Goals as goal
 use Rattle.sheet.proofs.plates.Plates.depth.Goals.{in-Some, in_default}
 
 pub loop-slot-init : goal.loop-slot-init
 loop-slot-init c = depth_none
 
-pub foot-requires : goal.foot-requires
-foot-requires c =
+pub block-requires : goal.block-requires
+block-requires c =
     let xs = c.args.self.now.slots in
     let h : c.loop-slot.slot-index < length xs = omega (arith, c.args.self.now.long) in
     let k = plate_kept xs c.requires.light c.requires.inside c.loop-slot.slot-index c.in-Some.plate h c.in-Some.is in
-    k.0
+    record { inside = k.0; light = k.1 }
 
 pub loop-slot-preserved : goal.loop-slot-preserved
 loop-slot-preserved c =
@@ -26,8 +26,8 @@ loop-slot-preserved c =
     elim c.match-slot.branch [
       | in-Some w ↦
           subst (IsDepth (plate_strips (take (i + 1) xs)) (plate_strips (take (i + 1) xs))) (sym (w.deepest-is ∙ w.max-deepest.ensures))
-          (depth_next xs i h w.in-Some.plate w.in-Some.is
-          c.loop-slot.deepest w.foot.result c.loop-slot.invariant w.foot.ensures)
+          (depth_next xs i h w.in-Some.plate w.in-Some.is c.loop-slot.deepest w.depth.result c.loop-slot.invariant
+          (subst (λ f. IsDepth f f w.depth.result) (block_strips w.in-Some.plate w.block.result (record { top = w.block.ensures.top; height = w.block.ensures.height; strength = w.block.ensures.strength })) w.depth.ensures))
       | in_default w ↦
           subst (λ f. IsDepth f f c.match-slot.deepest) (sym (next_none xs i h w.in_default.is)) (subst (IsDepth (plate_strips (take i xs)) (plate_strips (take i xs))) (sym w.deepest-is) c.loop-slot.invariant)
     ]

@@ -1,4 +1,4 @@
-use Rattle.std.proofs.Common.{◌<◌, length, Some, None, sym, ap, ◌∙◌, arith}
+use Rattle.std.proofs.Common.{ℕ, ◌%◌, ◌^◌, ◌<◌, length, Some, None, sym, ap, ◌∙◌, arith}
 use lib.ListN.{length-map}
 use Rattle.std.proofs.lemmas.Bool.{ltb-false}
 use Rattle.sheet.specs.Plates.{total_force, lowered_in, passes_in}
@@ -18,7 +18,7 @@ invariant_of-self c =
     let m = c.args.self.now.measures in
     record {
       long = ap length all ∙ length-map slots f ∙ long;
-      totalled = c.args.self.now.totalled ∙ sym (ap total_force all ∙ total_force_kept c.args.n slots);
+      totalled = c.args.self.now.totalled ∙ sym (ap (λ (n : ℕ). n % 2 ^ 64) (ap total_force all ∙ total_force_kept c.args.n slots));
       placed = make_note c.args.self.now.roles c.loop-slot.slot-items (λ r. read_note c.args.self.now.roles slots c.args.self.now.placed r ∙ sym (ap (slot_with r) all ∙ slot-lowered c.args.n r slots));
       measured = fits_same _ _ _ _ _ _ _ _ all c.lower.ensures.tops c.lower.ensures.heights c.lower.ensures.strengths (fits_lower c.args.n slots m.tops m.heights m.strengths (omega (arith, long, m.topped)) c.requires c.args.self.now.measured);
     }

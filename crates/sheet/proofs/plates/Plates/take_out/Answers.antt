@@ -1,19 +1,13 @@
 -- `sheet::plates::Plates::take_out` meets its contract.
-use Rattle.std.proofs.Common.{◌<◌, cond, length, set, None, sym, refl, ap, ◌∙◌, arith, length-set}
+use Rattle.std.proofs.Common.{◌<◌, cond, length, set, None, sym, refl, ap, ◌∙◌, arith, length-set, Option, ℕ}
 use Rattle.std.proofs.lemmas.List.{set-get_or}
-use Rattle.std.proofs.lemmas.List.Sums.{sum_by-set, get_or-le-sum_by}
+use Rattle.std.proofs.lemmas.List.Sums.{sum_by-set}
 use Rattle.sheet.specs.Plates.{force_in, clash}
+use Rattle.sheet.specs.RoleSlots.{noted, slot_with}
+use Rattle.sheet.proofs.TotalKept.{total_less}
 use Rattle.sheet.proofs.MeasuresKept.{fits_same, fits_out}
 use Rattle.sheet.proofs.RolePlaces.{read_note, make_note, slot_out}
 use Rattle.sheet.proofs.plates.Plates.take_out.Goals as goal
-
-pub overflow_sub-self : goal.overflow_sub-self
-overflow_sub-self c =
-    let s = c.args.self.now in
-    let xs = s.slots in
-    let slot = c.args.slot in
-    let h : slot < length xs = omega (arith, s.long) in
-    omega (arith, s.totalled, c.force.ensures, get_or-le-sum_by force_in xs slot None h, ap force_in c.in-Some.ensures)
 
 pub invariant_of-self : goal.invariant_of-self
 invariant_of-self c =
@@ -22,15 +16,21 @@ invariant_of-self c =
     let xs = s.slots in
     let slot = c.args.slot in
     let h : slot < length xs = omega (arith, s.long) in
+    let is = sym c.get.ensures ∙ c.in-Some.is in
     let m = s.measures in
     record {
       long = length-set xs slot None ∙ s.long;
-      totalled = omega (arith, s.totalled, c.force.ensures, sum_by-set force_in xs slot None None h, ap force_in c.in-Some.ensures);
-      placed = make_note _ (set xs slot None) (λ r. c.note.ensures r ∙ ap (cond (clash p.role r) None) (read_note s.roles xs s.placed r) ∙ slot_out xs slot p h (sym c.in-Some.ensures) c.requires.once r);
+      totalled = total_less s.total _ _ c.force.result (omega arith) s.totalled (omega (arith, c.force.ensures, sum_by-set force_in xs slot None None h, ap force_in is));
+      placed =
+          make_note _ (set xs slot None)
+          (λ r. c.note.ensures r
+          ∙ ap (λ (o : Option ℕ). cond (clash p.role r) o (noted r s.roles)) c.first_slot-next.ensures
+          ∙ ap (cond (clash p.role r) (slot_with p.role (set xs slot None))) (read_note s.roles xs s.placed r)
+          ∙ slot_out xs slot p is r);
       measured = fits_same _ _ _ _ _ _ _ _ refl c.clear.ensures.tops c.clear.ensures.heights c.clear.ensures.strengths (fits_out xs m.tops m.heights m.strengths slot h (omega (arith, m.sized)) s.measured);
     }
 
 pub returns-in_default : goal.returns-in_default
 returns-in_default c =
     let xs = c.args.self.now.slots in
-    sym (set-get_or xs c.args.slot None) ∙ ap (set xs c.args.slot) (sym c.in_default.ensures)
+    sym (set-get_or xs c.args.slot None) ∙ ap (set xs c.args.slot) (sym c.get.ensures ∙ c.in_default.is)
