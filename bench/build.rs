@@ -4,11 +4,11 @@ use std::path::Path;
 use std::process::exit;
 
 fn main() {
-    let folder = Path::new(env!("CARGO_MANIFEST_DIR")).join("../target/staticlib");
+    let folder = Path::new(env!("CARGO_MANIFEST_DIR")).join("../crates/office/out");
     let archive = folder.join("liboffice.a");
     println!("cargo::rerun-if-changed={}", archive.display());
     if !archive.is_file() {
-        eprintln!("The proved reader's archive target/staticlib/liboffice.a is not there. Make it first: rt staticlib office");
+        eprintln!("The proved reader's archive crates/office/out/liboffice.a is not there. Make it first, in crates/office: rt lib");
         exit(1);
     }
     println!("cargo::rustc-link-search=native={}", folder.display());
