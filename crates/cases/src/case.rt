@@ -70,7 +70,7 @@ fn reply(heap: Global, answer: Result<String, Stop>) -> Result<String, AllocErro
     match answer {
         Ok(text) => Ok(text),
         Err(Stop::Refused(number)) => refused(heap, number),
-        Err(Stop::NoMemory) => Err(AllocError),
+        Err(Stop::NoMemory(error)) => Err(error),
         Err(_) => String::from_str(heap, "unreadable"),
     }
 }

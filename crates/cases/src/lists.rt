@@ -47,7 +47,7 @@ impl List {
     ) -> Result<(), AllocError> {
         match call(heap, line.sort, Words::new(line.operands)) {
             Ok(call) => self.push(call, number, String::from_str(heap, line.expected)?),
-            Err(Stop::NoMemory) => Err(AllocError),
+            Err(Stop::NoMemory(error)) => Err(error),
             Err(_) => Ok(()),
         }
     }

@@ -10,7 +10,7 @@ pub(crate) enum Stop {
     Unreadable,
     // no list of calls may have this one
     NotListed,
-    NoMemory,
+    NoMemory(AllocError),
 }
 
 impl From<SheetFault> for Stop {
@@ -32,13 +32,13 @@ impl From<QuestionFault> for Stop {
 }
 
 impl From<AllocError> for Stop {
-    fn from(_error: AllocError) -> Stop {
-        Stop::NoMemory
+    fn from(error: AllocError) -> Stop {
+        Stop::NoMemory(error)
     }
 }
 
 impl<T: Drop> From<AllocFailed<T>> for Stop {
-    fn from(_refused: AllocFailed<T>) -> Stop {
-        Stop::NoMemory
+    fn from(refused: AllocFailed<T>) -> Stop {
+        Stop::NoMemory(AllocError::from(refused))
     }
 }

@@ -93,7 +93,7 @@ impl Plates {
         requires { total_force self.now.slots ≤ 2 ^ 36 }
         ensures { result ≡ total_force self.now.slots }
     {
-        self.total
+        self.total // whole, within the bound
     }
 
     // Whether a plate stands that the role may not join.

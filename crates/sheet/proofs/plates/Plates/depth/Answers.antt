@@ -1,5 +1,5 @@
 -- `sheet::plates::Plates::depth` meets its contract.
-use Rattle.std.proofs.Common.{◌+◌, ◌<◌, ◌≤◌, length, take, sym, ◌∙◌, subst, arith}
+use Rattle.std.proofs.Common.{◌≡◌, ◌+◌, ◌<◌, ◌≤◌, max, length, take, sym, subst, arith}
 use Rattle.std.proofs.lemmas.List.{take_all}
 use Rattle.section.specs.Parts.{IsDepth}
 use Rattle.section.proofs.Together.{depth_none}
@@ -25,7 +25,7 @@ loop-slot-preserved c =
     let h : i < length xs = omega (arith, c.args.self.now.long) in
     elim c.match-slot.branch [
       | in-Some w ↦
-          subst (IsDepth (plate_strips (take (i + 1) xs)) (plate_strips (take (i + 1) xs))) (sym (w.deepest-is ∙ w.max-deepest.ensures))
+          subst (IsDepth (plate_strips (take (i + 1) xs)) (plate_strips (take (i + 1) xs))) (let deeper : max w.depth.result c.loop-slot.deepest ≡ c.match-slot.deepest = omega arith in deeper)
           (depth_next xs i h w.in-Some.plate w.in-Some.is c.loop-slot.deepest w.depth.result c.loop-slot.invariant
           (subst (λ f. IsDepth f f w.depth.result) (block_strips w.in-Some.plate w.block.result (record { top = w.block.ensures.top; height = w.block.ensures.height; strength = w.block.ensures.strength })) w.depth.ensures))
       | in_default w ↦
