@@ -1,5 +1,5 @@
 // The layer in which a fault arose.
-#[derive(Clone, Copy)]
+#[derive(Clone, Copy, Debug, PartialEq, Eq)]
 pub enum Layer {
     Value,
     Sheet,

@@ -1,4 +1,7 @@
 //! Every refusal: its number, the layer it arose in, the slot of the refused call, and the place of its command.
+//!
+//! `number` is a method of each type, and `layer` and `slot` of some: the tables differ in each case, so that nothing generic serves two.
+//! A fault is more than its number, which is told by that name and not by `From`.
 #![tactic(auto)]
 
 mod layer;
@@ -8,6 +11,8 @@ mod question;
 mod reading;
 mod recorded;
 mod sheet;
+#[cfg(test)]
+mod tests;
 mod value;
 
 pub use layer::Layer;

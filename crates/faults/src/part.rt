@@ -2,7 +2,10 @@
 ghost use Rattle.std.specs.Prelude.{◌≡◌};
 ghost use Rattle.faults.specs.Numbers.{part_number};
 
-#[derive(Clone, Copy)]
+use thiserror::Error;
+
+#[derive(Clone, Copy, Debug, PartialEq, Eq, Error)]
+#[error("refused with {}", self.number())]
 pub enum PartFault {
     // a measure outside its limits, a seventh layer, or a total past 2^36
     OutsideLimits,

@@ -8,8 +8,10 @@ use crate::part::PartFault;
 use crate::question::QuestionFault;
 use crate::reading::ReadFault;
 use crate::sheet::SheetFault;
+use thiserror::Error;
 
-#[derive(Clone, Copy)]
+#[derive(Clone, Copy, Debug, PartialEq, Eq, Error)]
+#[error("refused with {}", self.number())]
 pub enum RecordFault {
     Sheet(SheetFault),
     Part(PartFault),
@@ -17,6 +19,7 @@ pub enum RecordFault {
     Reading(ReadFault),
 }
 
+// These four by hand: clauses name the error that a `?` makes, and a derived `From` promises none.
 impl From<SheetFault> for RecordFault {
     ghost from_gives = { λ f r. r ≡ Sheet f };
 

@@ -5,34 +5,46 @@ ghost use Rattle.faults.specs.Numbers.{sheet_number, sheet_layer};
 
 use crate::layer::Layer;
 use crate::value::ValueFault;
+use thiserror::Error;
 
 // Why a change is refused.
-#[derive(Clone, Copy)]
+#[derive(Clone, Copy, Debug, PartialEq, Eq, Error)]
 pub enum SheetReason {
     // a slot past the last
+    #[error("no such slot")]
     NoSlot,
     // a full slot that is to be filled
+    #[error("the slot is full")]
     SlotFull,
     // an empty slot that is to be emptied
+    #[error("the slot is empty")]
     SlotEmpty,
     // a plate's role, measure or yield outside its limits
+    #[error("the plate is outside its limits")]
     PlateLimits,
     // a plate whose role stands already
+    #[error("the role stands already")]
     RoleStands,
     // plates that would pass 2^36 together
+    #[error("the plates would be too strong together")]
     TooStrong,
+    // a value that is no number, out of range, or no multiple of 1/16
+    #[error("the value is none that can be kept")]
     Value(ValueFault),
     // a lowered plate that would pass level 4,096
+    #[error("a plate would go too low")]
     TooLow,
 }
 
 // A refused change: the reason, and the slot where the call names one.
-#[derive(Clone, Copy)]
+#[derive(Clone, Copy, Debug, PartialEq, Eq, Error)]
+#[error("refused with {}", self.number())]
 pub struct SheetFault {
     pub reason: SheetReason,
     pub slot: Option<u8>,
 }
 
+// By hand: clauses name the error that a `?` makes, and a derived `From` promises none.
 impl From<ValueFault> for SheetFault {
     ghost from_gives = { λ v r. r ≡ record { reason = Value v; slot = None } };
 
@@ -57,8 +69,8 @@ impl SheetFault {
         ensures { result ≡ record { reason = self.reason; slot = Some slot } }
     {
         SheetFault {
-            reason: self.reason,
             slot: Some(slot),
+            ..self
         }
     }
 

@@ -2,7 +2,10 @@
 ghost use Rattle.std.specs.Prelude.{◌≡◌};
 ghost use Rattle.faults.specs.Numbers.{value_number};
 
-#[derive(Clone, Copy)]
+use thiserror::Error;
+
+#[derive(Clone, Copy, Debug, PartialEq, Eq, Error)]
+#[error("refused with {}", self.number())]
 pub enum ValueFault {
     // no number, or beyond 131,072 in magnitude
     OutOfRange,

@@ -1,5 +1,6 @@
 -- What a finite float's operations do, over `HasValue x s a c`: x is finite, has the sign s, and is a / c in size. Assumes nothing.
 use Rattle.std.proofs.Common.{◌≡◌, ℕ, zero, suc, ◌+◌, ◌-◌, ◌*◌, ◌/◌, ◌%◌, ◌^◌, ◌<◌, ◌≤◌, min, Bool, true, false, cond, ◌&&◌, ◌||◌, T, eqb, ltb, leb, ◌⊎◌, ℤ, pos, negsuc, neg_ℤ, sym, refl, ap, ◌∙◌, subst, inl, inr, le_of_eq, le_of_suc-le-suc, lt_of_le_of_lt, mul-le-mul_right, zero-lt-suc, mul-pos, lt_of_not-le, mul-one, not-le_of_lt, le_of_mul-le-mul_right, arith, ltb→lt, leb→le, pow_pos, pow-add, eq-eqb, eqb-true}
+use Rattle.std.proofs.lemmas.Bool.{and_parts}
 use mathlib.Core.Bool.{beq}
 use native.Mathlib.Nat.{eq_of_mul-eq-mul_right}
 use lib.Pow.{pow-lt}
@@ -10,15 +11,7 @@ use lib.Ieee.Nearest.{div_same}
 use lib.Ieee.Back.{round_whole}
 use Rattle.loads.specs.Values.{signed}
 
--- ---- tests of Booleans
-pub or_split : (p q : Bool) → (p || q) ≡ true → (p ≡ true) ⊎ (q ≡ true)
-or_split true q e = inl refl
-or_split false q e = inr e
-
-pub and_true : (p q : Bool) → (p && q) ≡ true → (p ≡ true) × (q ≡ true)
-and_true true q e = (refl, e)
-and_true false q e = absurd (borrow.Author.Tests.clash e)
-
+-- ---- a test of a Boolean
 beq_refl : (s : Bool) → beq s s ≡ true
 beq_refl true = refl
 beq_refl false = refl
@@ -107,7 +100,7 @@ eq_out nan y s t a c b d C D v w h = absurd v
 eq_out (inf u) y s t a c b d C D v w h = absurd v
 eq_out (fin u m e) nan s t a c b d C D v w h = absurd w
 eq_out (fin u m e) (inf z) s t a c b d C D v w h = absurd w
-eq_out (fin u m e) (fin z n g) s t a c b d C D v w h = same_out m e n g a c b d C D v.1 w.1 (eqb-true _ _ (and_true _ _ h).0)
+eq_out (fin u m e) (fin z n g) s t a c b d C D v w h = same_out m e n g a c b d C D v.1 w.1 (eqb-true _ _ (and_parts _ _ h).0)
 
 no_size : (m : ℕ) (e : ℤ) (c a : ℕ) → 0 < c → m * up e * c ≡ a * down e → a ≡ 0 → m * up e ≡ 0
 no_size m e c a C p z = eq_of_mul-eq-mul_right c C (m * up e) 0 (omega (arith, ap (λ (x : ℕ). x * down e) z))

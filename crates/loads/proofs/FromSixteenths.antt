@@ -3,14 +3,14 @@ use Rattle.std.proofs.Common.{◌≡◌, ℕ, suc, ◌*◌, ◌/◌, ◌%◌, �
 use native.Mathlib.Nat.{mul-mod_left}
 use lib.Signed.{non_neg}
 use Rattle.std.proofs.lemmas.Bool.{cases_lt}
-use lib.Ieee.{Float, nan, inf, fin, binary64, up, down, unlike, round, div, of_int}
+use lib.Ieee.{Float, nan, inf, fin, binary64, up, down, round, div, of_int}
 use lib.Ieee.Fits.{down_pos}
 use lib.Ieee.Exact.{HasValue, round_exact}
 use lib.Ieee.Scale.{round_same}
 use lib.Ieee.Back.{round_whole}
 use Rattle.faults.specs.declared.value.ValueFault.TheVariants.{OutOfRange}
 use Rattle.loads.specs.Values.{signed, judged_fraction, judged, IsSixteenths, judged_sixteenths}
-use Rattle.loads.proofs.Sixteenths.{sixteen, sixteen_is}
+use Rattle.loads.proofs.Sixteenths.{sixteen, sixteen_is, unlike_plus}
 
 abbrev negative : ℤ → Bool
 negative z = not (non_neg z)
@@ -22,10 +22,6 @@ as_float (pos n) h = round_whole binary64 false n (omega arith)
 as_float (negsuc n) h = round_whole binary64 true (suc n) (omega arith)
 
 -- ---- its sixteenth is exact
-unlike_plus : (s : Bool) → unlike s false ≡ s
-unlike_plus true = refl
-unlike_plus false = refl
-
 exact : (s : Bool) (a : ℕ) → a ≤ 2147483648 → HasValue (round binary64 s a 16) s a 16
 exact s a h =
     round_exact binary64 s a 16 a 1070 (zero-lt-suc 15) (omega arith)

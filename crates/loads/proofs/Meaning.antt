@@ -1,7 +1,7 @@
 -- `judged` says what it should. Assumes nothing.
 use Rattle.std.proofs.Common.{◌≡◌, ℕ, zero, suc, ◌+◌, ◌*◌, ◌/◌, ◌%◌, ◌<◌, ◌≤◌, Bool, true, false, cond, eqb, ltb, ℤ, nat_abs, Ok, Err, Result, sym, refl, ap, ◌∙◌, subst, div-add-mod', arith, ltb-false, ltb-true, eqb-true}
 use native.Mathlib.Nat.{mul-mod_left}
-use borrow.Author.Tests.{eqb-false}
+use Rattle.std.proofs.lemmas.Bool.{eqb-false}
 use lib.Ieee.{Float, nan, inf, fin, up, down}
 use Rattle.faults.specs.declared.value.ValueFault.{ValueFault}
 use Rattle.faults.specs.declared.value.ValueFault.TheVariants.{OutOfRange, NotSixteenths}

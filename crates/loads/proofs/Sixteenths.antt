@@ -1,12 +1,13 @@
 -- What `sixteenths` answers at each float. Assumes nothing.
 use Rattle.std.proofs.Common.{◌≡◌, ℕ, ◌+◌, ◌*◌, ◌/◌, ◌%◌, ◌<◌, ◌≤◌, Bool, true, false, ◌&&◌, ◌||◌, T, ltb, ℤ, pos, Ok, Err, sym, refl, ap, ◌∙◌, subst, inl, inr, zero-lt-suc, mul-one, arith, lit≤, ltb-false, ltb-true, le-ltb, lt-ltb, eq-eqb, ne_eqb, eqb-true}
-use borrow.Author.Tests.{eqb-false, clash}
+use Rattle.std.proofs.lemmas.Bool.{eqb-false, or_cases, or_parts, false≢true}
+use Rattle.std.proofs.Math.Bool.{and-true}
 use lib.Ieee.{Float, nan, inf, fin, binary64, up, down, round, mul, eq, le, lt, neg, of_int, of_bits, to_signed, fits}
 use lib.Ieee.Fits.{down_pos}
 use lib.Ieee.Exact.{HasValue}
 use Rattle.faults.specs.declared.value.ValueFault.TheVariants.{OutOfRange, NotSixteenths}
 use Rattle.loads.specs.Values.{signed, judged_fraction, judged}
-use Rattle.loads.proofs.FloatValues.{or_split, digits_lt, scaled, cut, eq_out, eq_in, of_signed}
+use Rattle.loads.proofs.FloatValues.{digits_lt, scaled, cut, eq_out, eq_in, of_signed}
 
 -- ---- the literals
 abbrev pub most : Float
@@ -28,26 +29,14 @@ unfolding of_bits
 sixteen_is = refl
 
 -- ---- the range
-or_none : (p q : Bool) → (p || q) ≡ false → (p ≡ false) × (q ≡ false)
-or_none true q e = absurd (clash (sym e))
-or_none false q e = (refl, e)
-
-and_yes : (p : Bool) → (p && true) ≡ true → p ≡ true
-and_yes true e = refl
-and_yes false e = e
-
-and_no : (p : Bool) → (p && true) ≡ false → p ≡ false
-and_no true e = e
-and_no false e = refl
-
 le_yes : (a b : ℕ) (q : Bool) → (q ≡ true → a ≡ b) → (ltb a b || (q && true)) ≡ true → a ≤ b
-le_yes a b q k h = elim (or_split (ltb a b) (q && true) h) [ inl l ↦ omega (arith, ltb-true a b l) | inr z ↦ omega (arith, k (and_yes q z)) ]
+le_yes a b q k h = elim (or_cases (ltb a b) (q && true) h) [ inl l ↦ omega (arith, ltb-true a b l) | inr z ↦ omega (arith, k (sym (and-true q) ∙ z)) ]
 
 le_no : (a b : ℕ) (q : Bool) → (q ≡ false → a ≡ b → ⊥) → (ltb a b || (q && true)) ≡ false → b < a
 le_no a b q k h =
-    let r = or_none (ltb a b) (q && true) h in
+    let r = or_parts (ltb a b) (q && true) h in
     let l : b ≤ a = ltb-false a b r.0 in
-    let n : a ≡ b → ⊥ = k (and_no q r.1) in
+    let n : a ≡ b → ⊥ = k (sym (and-true q) ∙ r.1) in
     omega arith
 
 abbrev Within : Float → Type 0
@@ -57,9 +46,9 @@ Within (fin s m e) = m * up e ≤ 131072 * down e
 
 within : (x : Float) → le (fin true 1 (pos 17)) x ≡ true → le x (fin false 1 (pos 17)) ≡ true → Within x
 unfolding le
-within nan h k = absurd (clash h)
-within (inf true) h k = absurd (clash h)
-within (inf false) h k = absurd (clash k)
+within nan h k = absurd (false≢true h)
+within (inf true) h k = absurd (false≢true h)
+within (inf false) h k = absurd (false≢true k)
 within (fin true m e) h k = omega (arith, le_yes (m * up e * 1) (131072 * down e) _ (λ z. sym (eqb-true _ _ z)) h)
 within (fin false m e) h k = omega (arith, le_yes (m * up e * 1) (131072 * down e) _ (eqb-true _ _) k)
 
@@ -67,20 +56,20 @@ past : (s : Bool) (a d : ℕ) → 131072 * d < a → Err OutOfRange ≡ judged_f
 past s a d h = rw (lt-ltb (131072 * d) a h) refl
 
 some : (a d : ℕ) → 0 < d → (ltb 0 (131072 * d + a) || false) ≡ false → ⊥
-some a d D h = omega (arith, ltb-false _ _ (or_none (ltb 0 (131072 * d + a)) false h).0)
+some a d D h = omega (arith, ltb-false _ _ (or_parts (ltb 0 (131072 * d + a)) false h).0)
 
 low : (x : Float) → le (fin true 1 (pos 17)) x ≡ false → Err OutOfRange ≡ judged x
 unfolding le
 low nan h = refl
 low (inf s) h = refl
 low (fin true m e) h = past true (m * up e) (down e) (omega (arith, le_no (m * up e * 1) (131072 * down e) _ (λ z k. eqb-false _ _ z (sym k)) h))
-low (fin false m e) h = absurd (omega (arith, down_pos e, ltb-false _ _ (or_none (ltb 0 (131072 * down e + m * up e * 1)) _ h).0))
+low (fin false m e) h = absurd (omega (arith, down_pos e, ltb-false _ _ (or_parts (ltb 0 (131072 * down e + m * up e * 1)) _ h).0))
 
 high : (x : Float) → le x (fin false 1 (pos 17)) ≡ false → Err OutOfRange ≡ judged x
 unfolding le
 high nan h = refl
 high (inf s) h = refl
-high (fin true m e) h = absurd (omega (arith, down_pos e, ltb-false _ _ (or_none (ltb 0 (m * up e * 1 + 131072 * down e)) _ h).0))
+high (fin true m e) h = absurd (omega (arith, down_pos e, ltb-false _ _ (or_parts (ltb 0 (m * up e * 1 + 131072 * down e)) _ h).0))
 high (fin false m e) h = past false (m * up e) (down e) (omega (arith, le_no (m * up e * 1) (131072 * down e) _ (eqb-false _ _) h))
 
 pub out_low : (x : Float) → le (neg most) x ≡ false → Err OutOfRange ≡ judged x
@@ -90,7 +79,7 @@ pub out_high : (x : Float) → le x most ≡ false → Err OutOfRange ≡ judged
 out_high x h = high x (subst (λ (z : Float). le x z ≡ false) most_is h)
 
 -- ---- in range: sixteen times the value is exact, cut to a whole number it is compared with itself
-unlike_plus : (s : Bool) → lib.Ieee.unlike s false ≡ s
+pub unlike_plus : (s : Bool) → lib.Ieee.unlike s false ≡ s
 unlike_plus true = refl
 unlike_plus false = refl
 
@@ -124,7 +113,7 @@ module _ (s : Bool) (a d : ℕ) (D : 0 < d) (A : a ≤ 131072 * d) where
     differs : eq (of_int binary64 (signed s (16 * a / d))) y ≡ false → 16 * a % d ≡ 0 → ⊥
     differs h z =
         let k = of_signed binary64 s (16 * a / d) (omega (arith, few)) in
-        clash (sym h ∙ eq_in (of_int binary64 (signed s (16 * a / d))) y k.0 s (16 * a / d) 1 (16 * a) d (zero-lt-suc 0) D k.1 v k.2 (omega (arith, native.Mathlib.Nat.div-add-mod' (16 * a) d)))
+        false≢true (sym h ∙ eq_in (of_int binary64 (signed s (16 * a / d))) y k.0 s (16 * a / d) 1 (16 * a) d (zero-lt-suc 0) D k.1 v k.2 (omega (arith, native.Mathlib.Nat.div-add-mod' (16 * a) d)))
 
     taken : (r : ℤ) → r ≡ to_signed 31 y → eq (of_int binary64 r) y ≡ true → Ok r ≡ judged_fraction s a d
     taken r e h =

@@ -7,7 +7,7 @@ use crate::kind::EffectKind;
 use faults::ValueFault;
 use std::num::saturating_f64_to_i32;
 
-#[derive(Clone, Copy)]
+#[derive(Clone, Copy, Debug, PartialEq)]
 pub enum Effect {
     // kip-feet
     Moment(f64),
@@ -20,6 +20,7 @@ fn sixteenths(x: f64) -> Result<i32, ValueFault>
     ensures value { result ≡ judged x }
     ensures means { Judges x result }
 {
+    // Two comparisons, and no range's `contains`: that a NaN passes neither is seen here.
     if -131072.0 <= x && x <= 131072.0 {
         let y = x * 16.0;
         let n = saturating_f64_to_i32(y);
@@ -70,8 +71,7 @@ impl Effect {
         ensures means { Judges (value_of self) result }
     {
         match self {
-            Effect::Moment(x) => sixteenths(x),
-            Effect::Shear(x) => sixteenths(x),
+            Effect::Moment(x) | Effect::Shear(x) => sixteenths(x),
         }
     }
 }

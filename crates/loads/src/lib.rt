@@ -5,7 +5,7 @@ mod effect;
 mod kind;
 mod limit_state;
 mod load_type;
-mod states;
+mod published;
 #[cfg(test)]
 mod tests;
 
@@ -13,3 +13,4 @@ pub use effect::Effect;
 pub use kind::EffectKind;
 pub use limit_state::LimitState;
 pub use load_type::LoadType;
+pub use published::PublishedState;

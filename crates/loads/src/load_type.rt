@@ -1,8 +1,11 @@
 // The four load types.
 ghost use Rattle.std.specs.Prelude.{◌≡◌};
+ghost use Rattle.loads.specs.Codes.{load_type};
 ghost use Rattle.loads.specs.Factors.{index};
 
-#[derive(Clone, Copy)]
+use faults::ReadFault;
+
+#[derive(Clone, Copy, Debug, PartialEq, Eq)]
 pub enum LoadType {
     // dead load of structural components and attachments
     Dc,
@@ -14,16 +17,33 @@ pub enum LoadType {
     Ws,
 }
 
-impl LoadType {
-    // Where the type stands in a limit state's list of four.
-    pub fn index(self) -> usize
-        ensures { result ≡ index self }
-    {
-        match self {
+// Where the type stands in a limit state's list of four.
+impl From<LoadType> for usize {
+    ghost from_gives = { λ t n. n ≡ index t };
+
+    fn from(load: LoadType) -> usize {
+        match load {
             LoadType::Dc => 0,
             LoadType::Dw => 1,
             LoadType::Ll => 2,
             LoadType::Ws => 3,
+        }
+    }
+}
+
+// The type that a record names by this code.
+impl TryFrom<u8> for LoadType {
+    type Error = ReadFault;
+
+    ghost try_from_gives = { λ code r. r ≡ load_type code };
+
+    fn try_from(code: u8) -> Result<LoadType, ReadFault> {
+        match code {
+            1 => Ok(LoadType::Dc),
+            2 => Ok(LoadType::Dw),
+            3 => Ok(LoadType::Ll),
+            4 => Ok(LoadType::Ws),
+            _ => Err(ReadFault::UnknownCode),
         }
     }
 }

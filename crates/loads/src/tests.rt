@@ -2,23 +2,18 @@
 use crate::effect::Effect;
 use crate::limit_state::LimitState;
 use crate::load_type::LoadType;
-use faults::QuestionFault;
+use crate::published::PublishedState;
+use faults::{QuestionFault, ValueFault};
 use std::test::Fail;
 
 // The sixteenths, or the number of the refusal.
 fn told(effect: Effect) -> Result<i32, u8> {
-    match effect.sixteenths() {
-        Ok(n) => Ok(n),
-        Err(fault) => Err(fault.number()),
-    }
+    effect.sixteenths().map_err(ValueFault::number)
 }
 
-// The number of the refusal, 0 for none.
-fn refusal(res: Result<LimitState, QuestionFault>) -> u8 {
-    match res {
-        Ok(_) => 0,
-        Err(fault) => fault.number(),
-    }
+// The number of the refusal, if it is one.
+fn refusal(made: Result<LimitState, QuestionFault>) -> Option<u8> {
+    made.err().map(QuestionFault::number)
 }
 
 #[test]
@@ -35,21 +30,18 @@ fn values_in_sixteenths(rt: HostRuntime) {
 
 #[test]
 fn limit_states_refused(rt: HostRuntime) {
-    assert_eq!(rt; refusal(LimitState::published(0)), 15);
-    assert_eq!(rt; refusal(LimitState::published(10)), 15);
+    assert_eq!(rt; refusal(LimitState::published(0)), Some(15));
+    assert_eq!(rt; refusal(LimitState::published(10)), Some(15));
     let low_above_high = [(90, 125), (151, 150), (0, 0), (0, 0)];
-    assert_eq!(rt; refusal(LimitState::new(low_above_high)), 15);
-    assert_eq!(rt; refusal(LimitState::new([(0, 1001); 4])), 15);
-    assert_eq!(rt; refusal(LimitState::new([(1000, 1000); 4])), 0);
+    assert_eq!(rt; refusal(LimitState::new(low_above_high)), Some(15));
+    assert_eq!(rt; refusal(LimitState::new([(0, 1001); 4])), Some(15));
+    assert_eq!(rt; refusal(LimitState::new([(1000, 1000); 4])), None);
 }
 
 #[test]
 fn wind_in_strength_v(rt: HostRuntime) -> Result<(), Fail> {
-    match LimitState::published(5) {
-        Ok(state) => {
-            assert_eq!(rt; state.factors(LoadType::Ws), (0, 40));
-            Ok(())
-        },
-        Err(_) => Err(Fail::new("a published state is refused")),
-    }
+    let state = LimitState::published(5)?;
+    assert_eq!(rt; state.factors(LoadType::Ws), (0, 40));
+    assert_eq!(rt; state, LimitState::from(PublishedState::StrengthV));
+    Ok(())
 }
