@@ -14,16 +14,16 @@ impl CoverPlate {
     pub fn new(top: u16, breadth: u16, height: u16, fy: u32) -> Option<CoverPlate>
         ensures { CoverMade top breadth height fy result }
     {
-        if breadth < 1 || breadth > BROADEST || height < 1 {
+        if !(1..=BROADEST).contains(&breadth) || height < 1 {
             return None;
         }
         if height > LOWEST || top > LOWEST - height {
             return None;
         }
-        if fy < LEAST_YIELD || fy > GREATEST_YIELD {
+        if !(LEAST_YIELD..=GREATEST_YIELD).contains(&fy) {
             return None;
         }
-        if breadth as u64 * height as u64 * fy as u64 > STRONGEST {
+        if u64::from(breadth) * u64::from(height) * u64::from(fy) > STRONGEST {
             return None;
         }
         Some(CoverPlate {
@@ -34,16 +34,18 @@ impl CoverPlate {
         })
     }
 
-    // Its strips as a block, each with the force breadth × yield.
+    // Its strips as a block, each with the force breadth × yield; by itself, since a cover plate knows of no sheet whose plates do the same.
     fn block(&self) -> Block
         ensures top { result.top ≡ self.now.top }
         ensures height { result.height ≡ self.now.height }
         ensures strength { result.strength ≡ self.now.breadth * self.now.fy }
     {
-        match Block::new(self.top, self.height, self.breadth as u64 * self.fy as u64) {
-            Some(block) => block,
-            None => unreachable(),
-        }
+        Block::new(
+            self.top,
+            self.height,
+            u64::from(self.breadth) * u64::from(self.fy),
+        )
+        .unwrap()
     }
 }
 

@@ -1,6 +1,7 @@
 -- A slab that only pushes, beside bars that push and pull.
 use Rattle.std.proofs.Common.{◌≡◌, ℕ, ◌+◌, max, arith}
 use Rattle.section.specs.declared.sense.Sense.TheVariants.{Sagging, Hogging}
+use Rattle.section.specs.declared.forces.Forces.{Forces}
 use Rattle.section.specs.declared.resultants.Resultants.{Resultants}
 use Rattle.section.specs.Strips.{force_above, force_below, moment_above, moment_below, ◌⊕◌}
 use Rattle.section.specs.Parts.{IsDepth, IsForces, IsResultants}
@@ -33,8 +34,8 @@ hogging_beside slab bars k r force moment x f m = record {
 }
 
 -- and so with the forces alone
-pub sagging_forces : (slab bars : ℕ → ℕ) (k : ℕ) (r : ℕ × ℕ) (force : ℕ) → IsForces Sagging bars bars k r → force ≡ force_above slab k → IsForces Sagging (slab ⊕ bars) bars k (r.0 + force, r.1)
+pub sagging_forces : (slab bars : ℕ → ℕ) (k : ℕ) (r : Forces) (force : ℕ) → IsForces Sagging bars bars k r → force ≡ force_above slab k → IsForces Sagging (slab ⊕ bars) bars k (record { above = r.above + force; below = r.below })
 sagging_forces slab bars k r force x f = record { above_is = omega (arith, x.above_is, force_above_both slab bars k); below_is = x.below_is }
 
-pub hogging_forces : (slab bars : ℕ → ℕ) (k : ℕ) (r : ℕ × ℕ) (force : ℕ) → IsForces Hogging bars bars k r → force ≡ force_below 4096 slab k → IsForces Hogging (slab ⊕ bars) bars k (r.0, r.1 + force)
+pub hogging_forces : (slab bars : ℕ → ℕ) (k : ℕ) (r : Forces) (force : ℕ) → IsForces Hogging bars bars k r → force ≡ force_below 4096 slab k → IsForces Hogging (slab ⊕ bars) bars k (record { above = r.above; below = r.below + force })
 hogging_forces slab bars k r force x f = record { above_is = x.above_is; below_is = omega (arith, x.below_is, force_below_both 4096 slab bars k) }

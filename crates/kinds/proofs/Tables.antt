@@ -4,6 +4,7 @@ use mathlib.Core.Path.{fun_ext}
 use Rattle.std.proofs.lemmas.Nat.{mul-le}
 use Rattle.section.specs.declared.sense.Sense.{Sense}
 use Rattle.section.specs.declared.sense.Sense.TheVariants.{Sagging, Hogging}
+use Rattle.section.specs.declared.resultants.Resultants.{Resultants}
 use Rattle.section.specs.Strips.{no_strips}
 use Rattle.section.specs.Parts.{IsDepth, IsResultants}
 use Rattle.section.specs.Sums.{le_or_lt}
@@ -18,17 +19,21 @@ evenly Hogging f k a b w l h = let e = seen_all f f k 4096 a b w l h in record {
 
 module _ (top yield : ℕ) (bs : List ℕ) where
   -- one turn of the loop that adds up a table
-  pub upper_turn : (k j a b w : ℕ) → Seen (table_strip top yield bs) (table_strip top yield bs) k (top + j) a b w → top + j < k →
-      Seen (table_strip top yield bs) (table_strip top yield bs) k (top + (j + 1)) (a + get_or bs j 0 * yield) b (w + get_or bs j 0 * yield * (2 * (k - (top + j)) - 1))
-  upper_turn k j a b w s l =
+  pub upper_turn : (k j : ℕ) (r one : Resultants) → Seen (table_strip top yield bs) (table_strip top yield bs) k (top + j) r.above r.below r.moment → top + j < k →
+      one ≡ record { above = get_or bs j 0 * yield; below = 0; moment = get_or bs j 0 * yield * (2 * (k - (top + j)) - 1) } →
+      Seen (table_strip top yield bs) (table_strip top yield bs) k (top + (j + 1)) (r.above + one.above) (r.below + one.below) (r.moment + one.moment)
+  upper_turn k j r one s l is =
       let e : suc (top + j) ≡ top + (j + 1) = omega arith in
-      rw (strip_at top yield bs j, e) at (seen_upper (table_strip top yield bs) (table_strip top yield bs) k (top + j) a b w s l)
+      let t = rw (strip_at top yield bs j, e) at (seen_upper (table_strip top yield bs) (table_strip top yield bs) k (top + j) r.above r.below r.moment s l) in
+      rw is (record { above_is = t.above_is; below_is = omega (arith, t.below_is); moment_is = t.moment_is })
 
-  pub lower_turn : (k j a b w : ℕ) → Seen (table_strip top yield bs) (table_strip top yield bs) k (top + j) a b w → k ≤ top + j →
-      Seen (table_strip top yield bs) (table_strip top yield bs) k (top + (j + 1)) a (b + get_or bs j 0 * yield) (w + get_or bs j 0 * yield * (2 * (top + j - k) + 1))
-  lower_turn k j a b w s l =
+  pub lower_turn : (k j : ℕ) (r one : Resultants) → Seen (table_strip top yield bs) (table_strip top yield bs) k (top + j) r.above r.below r.moment → k ≤ top + j →
+      one ≡ record { above = 0; below = get_or bs j 0 * yield; moment = get_or bs j 0 * yield * (2 * (top + j - k) + 1) } →
+      Seen (table_strip top yield bs) (table_strip top yield bs) k (top + (j + 1)) (r.above + one.above) (r.below + one.below) (r.moment + one.moment)
+  lower_turn k j r one s l is =
       let e : suc (top + j) ≡ top + (j + 1) = omega arith in
-      rw (strip_at top yield bs j, e) at (seen_lower (table_strip top yield bs) (table_strip top yield bs) k (top + j) a b w s l)
+      let t = rw (strip_at top yield bs j, e) at (seen_lower (table_strip top yield bs) (table_strip top yield bs) k (top + j) r.above r.below r.moment s l) in
+      rw is (record { above_is = omega (arith, t.above_is); below_is = t.below_is; moment_is = t.moment_is })
 
   pub small : (k m a b w : ℕ) → top + length bs ≤ 4096 → sum bs * yield ≤ 2 ^ 36 → m ≤ 4096 → k ≤ 4096 →
       Seen (table_strip top yield bs) (table_strip top yield bs) k m a b w → (a ≤ 2 ^ 36) × (b ≤ 2 ^ 36) × (w ≤ 2 ^ 50)

@@ -3,7 +3,7 @@ ghost use Rattle.kinds.specs.Decks.{LayerBlock};
 
 use section::{Block, GREATEST_YIELD, LEAST_YIELD};
 
-#[derive(Clone, Copy)]
+#[derive(Clone, Copy, Debug, PartialEq, Eq)]
 pub struct BarLayer {
     pub strip: u16,
     // in square sixteenths of an inch
@@ -16,9 +16,9 @@ impl BarLayer {
     pub(crate) fn block(&self) -> Option<Block>
         ensures { LayerBlock self.now result }
     {
-        if self.area < 1 || self.fy < LEAST_YIELD || self.fy > GREATEST_YIELD {
+        if self.area < 1 || !(LEAST_YIELD..=GREATEST_YIELD).contains(&self.fy) {
             return None;
         }
-        Block::new(self.strip, 1, self.area as u64 * self.fy as u64)
+        Block::new(self.strip, 1, u64::from(self.area) * u64::from(self.fy))
     }
 }

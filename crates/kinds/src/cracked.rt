@@ -3,9 +3,9 @@ ghost use Rattle.kinds.specs.Decks.{bars_of};
 ghost use Rattle.kinds.specs.DeckLaws.{cracked_laws};
 
 use crate::deck::Deck;
-use section::{Part, Resultants, Sense};
+use section::{Forces, Part, Resultants, Sense};
 
-#[derive(Clone, Copy)]
+#[derive(Clone, Copy, Debug, PartialEq, Eq)]
 pub struct Cracked<'a> {
     pub(crate) deck: &'a Deck,
 }
@@ -25,7 +25,7 @@ impl Part for Cracked<'_> {
         self.deck.bar_resultants(level)
     }
 
-    fn forces(&self, _sense: Sense, level: u16) -> (u64, u64) {
+    fn forces(&self, _sense: Sense, level: u16) -> Forces {
         self.deck.bar_forces(level)
     }
 }

@@ -11,7 +11,7 @@ use crate::cracked::Cracked;
 use crate::deck::{Deck, LAYERS};
 use crate::slab::Slab;
 use faults::PartFault;
-use section::{Block, Part, Resultants, STRONGEST, Sense};
+use section::{Block, Forces, Part, Resultants, STRONGEST, Sense};
 
 impl Deck {
     pub fn empty() -> Deck
@@ -28,8 +28,7 @@ impl Deck {
     pub fn fill(&mut self, slab: Slab, layers: &[BarLayer]) -> Result<(), PartFault>
         ensures { Fills slab layers.now self.old result self.new }
     {
-        let deck = Deck::filled(slab, layers)?;
-        *self = deck;
+        *self = Deck::filled(slab, layers)?;
         Ok(())
     }
 
@@ -39,22 +38,19 @@ impl Deck {
         if layers.len() > LAYERS {
             return Err(PartFault::OutsideLimits);
         }
-        let Some(block) = slab.block() else {
-            return Err(PartFault::OutsideLimits);
-        };
+        let slab = slab.block().ok_or(PartFault::OutsideLimits)?;
         let mut bars = [Block::empty(); LAYERS];
-        let mut total = block.total();
+        let mut total = slab.total();
+        // by index: after `bars.iter_mut().zip(layers)` the check knows nothing of what was written to `bars`
         for (i, layer) in layers.iter().enumerate() {
-            let Some(bar) = layer.block() else {
-                return Err(PartFault::OutsideLimits);
-            };
+            let bar = layer.block().ok_or(PartFault::OutsideLimits)?;
             total += bar.total();
             bars[i] = bar;
         }
         if total > STRONGEST {
             return Err(PartFault::OutsideLimits);
         }
-        Ok(Deck { slab: block, bars })
+        Ok(Deck { slab, bars })
     }
 
     // The deck's bars alone.
@@ -68,6 +64,7 @@ impl Deck {
     pub(crate) fn bar_depth(&self) -> u16
         ensures { IsDepth (bars_of self.now) (bars_of self.now) result }
     {
+        // a loop: the proof over `map(Block::depth).max()` did not close, as a block's depth is known by a property and not as a function of the block
         let mut depth: u16 = 0;
         for bar in &self.bars {
             depth = depth.max(bar.depth());
@@ -75,37 +72,27 @@ impl Deck {
         depth
     }
 
-    // The forces of the bars alone at a level, in either sense.
-    pub(crate) fn bar_forces(&self, level: u16) -> (u64, u64)
+    // The forces of the bars alone at a level, in either sense. Beside `bar_resultants`, since the search for the axis asks at each level for forces alone.
+    // A loop, as the proof goes bar by bar with a bound on each sum so far.
+    pub(crate) fn bar_forces(&self, level: u16) -> Forces
         ensures { (sense : Senses) → IsForces sense (bars_of self.now) (bars_of self.now) (min level 4096) result }
     {
-        let mut above: u64 = 0;
-        let mut below: u64 = 0;
+        let mut forces = Forces::default();
         for bar in &self.bars {
-            above += bar.force_above(level);
-            below += bar.force_below(level);
+            forces += bar.forces(level);
         }
-        (above, below)
+        forces
     }
 
-    // What the bars give at a level, in either sense.
+    // What the bars give at a level, in either sense; a loop, as for the forces.
     pub(crate) fn bar_resultants(&self, level: u16) -> Resultants
         ensures { (sense : Senses) → IsResultants sense (bars_of self.now) (bars_of self.now) (min level 4096) result }
     {
-        let mut above: u64 = 0;
-        let mut below: u64 = 0;
-        let mut moment: u64 = 0;
+        let mut at = Resultants::default();
         for bar in &self.bars {
-            let at = bar.resultants(level);
-            above += at.above;
-            below += at.below;
-            moment += at.moment;
+            at += bar.resultants(level);
         }
-        Resultants {
-            above,
-            below,
-            moment,
-        }
+        at
     }
 }
 
@@ -120,33 +107,40 @@ impl Part for Deck {
         self.slab.depth().max(self.bar_depth())
     }
 
+    // The slab pushes alone, above the level in sagging and below it in hogging: two arms, here and in `forces`, that mirror one another.
     fn resultants(&self, sense: Sense, level: u16) -> Resultants {
         let bars = self.bar_resultants(level);
         match sense {
             Sense::Sagging => {
-                let (force, moment) = self.slab.above(level);
+                let slab = self.slab.above(level);
                 Resultants {
-                    above: bars.above + force,
-                    below: bars.below,
-                    moment: bars.moment + moment,
+                    above: bars.above + slab.force,
+                    moment: bars.moment + slab.moment,
+                    ..bars
                 }
             }
             Sense::Hogging => {
-                let (force, moment) = self.slab.below(level);
+                let slab = self.slab.below(level);
                 Resultants {
-                    above: bars.above,
-                    below: bars.below + force,
-                    moment: bars.moment + moment,
+                    below: bars.below + slab.force,
+                    moment: bars.moment + slab.moment,
+                    ..bars
                 }
             }
         }
     }
 
-    fn forces(&self, sense: Sense, level: u16) -> (u64, u64) {
-        let (above, below) = self.bar_forces(level);
+    fn forces(&self, sense: Sense, level: u16) -> Forces {
+        let bars = self.bar_forces(level);
         match sense {
-            Sense::Sagging => (above + self.slab.force_above(level), below),
-            Sense::Hogging => (above, below + self.slab.force_below(level)),
+            Sense::Sagging => Forces {
+                above: bars.above + self.slab.force_above(level),
+                ..bars
+            },
+            Sense::Hogging => Forces {
+                below: bars.below + self.slab.force_below(level),
+                ..bars
+            },
         }
     }
 }

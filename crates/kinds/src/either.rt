@@ -1,9 +1,9 @@
-// A part of one of two kinds, so that kinds can stand in one list.
+// A part of one of two kinds, so that kinds can stand in one list. An enum of its own: a `Part` impl for another library's type would have to stand in `section`.
 ghost use Rattle.kinds.specs.Eithers.{of_either, either_laws};
 
-use section::{Part, Resultants, Sense};
+use section::{Forces, Part, Resultants, Sense};
 
-#[derive(Drop)]
+#[derive(Clone, Debug, Drop, PartialEq, Eq)]
 pub enum Either<P, Q> {
     First(P),
     Second(Q),
@@ -30,7 +30,7 @@ impl<P: Part, Q: Part> Part for Either<P, Q> {
         }
     }
 
-    fn forces(&self, sense: Sense, level: u16) -> (u64, u64) {
+    fn forces(&self, sense: Sense, level: u16) -> Forces {
         match self {
             Either::First(part) => part.forces(sense, level),
             Either::Second(part) => part.forces(sense, level),

@@ -1,5 +1,6 @@
 // A rolled shape, by a lent table of breadths, one for each strip from its top down.
-ghost use Rattle.std.specs.Prelude.{◌≡◌, ◌+◌, ◌*◌, ◌^◌, ◌≤◌, length, sum};
+ghost use Rattle.std.specs.Prelude.{◌≡◌, ◌+◌, ◌*◌, ◌^◌, ◌≤◌, IfOk, IfErr, length, sum};
+ghost use Rattle.faults.specs.declared.part.PartFault.TheVariants.{OutsideLimits};
 ghost use Rattle.section.specs.Strips.{no_strips};
 ghost use Rattle.kinds.specs.Shapes.{Broad, ShapeFits, Tried, table_strip};
 ghost use Rattle.kinds.specs.ShapeLaws.{shape_laws};
@@ -7,7 +8,8 @@ ghost use Rattle.kinds.specs.ShapeLaws.{shape_laws};
 use faults::PartFault;
 use section::{BROADEST, GREATEST_YIELD, LEAST_YIELD, LOWEST, Part, Resultants, STRONGEST, Sense};
 
-#[derive(Clone, Copy)]
+// Its top, yield and breadths go together through calls and clauses; a struct for them would be the shape again.
+#[derive(Clone, Copy, Debug, PartialEq, Eq)]
 pub struct Shape<'a> {
     top: u16,
     fy: u32,
@@ -16,6 +18,15 @@ pub struct Shape<'a> {
     ghost inside: { top + length breadths.now ≤ 4096 },
     ghost weakest: { 30000 ≤ fy },
     ghost light: { sum breadths.now * fy ≤ 2 ^ 36 },
+}
+
+// The breadths of a table added up.
+fn total(breadths: &[u16]) -> u64
+    requires { length breadths.now ≤ 4096 }
+    ensures value { result ≡ sum breadths.now }
+    ensures small { result ≤ 65535 * length breadths.now }
+{
+    breadths.iter().map(|&breadth| u64::from(breadth)).sum()
 }
 
 impl<'a> Shape<'a> {
@@ -36,31 +47,36 @@ impl<'a> Shape<'a> {
         if top > LOWEST || breadths.len() > (LOWEST - top) as usize {
             return Err(PartFault::OutsideLimits);
         }
-        if fy < LEAST_YIELD || fy > GREATEST_YIELD {
+        if !(LEAST_YIELD..=GREATEST_YIELD).contains(&fy) {
             return Err(PartFault::OutsideLimits);
         }
-        let mut total: u64 = 0;
-        for breadth in breadths {
-            if *breadth < 1 || *breadth > BROADEST {
-                return Err(PartFault::OutsideLimits);
-            }
-            total += *breadth as u64;
+        if !breadths
+            .iter()
+            .all(|breadth| (1..=BROADEST).contains(breadth))
+        {
+            return Err(PartFault::OutsideLimits);
         }
-        if total * fy as u64 > STRONGEST {
+        if total(breadths) * u64::from(fy) > STRONGEST {
             return Err(PartFault::OutsideLimits);
         }
         Ok(())
     }
 
-    // The shape of the table, or the empty one where the table is unfit.
+    // The shape of the table; refused with 10 where the table is unfit.
+    pub fn try_new(top: u16, fy: u32, breadths: &'a [u16]) -> Result<Shape<'a>, PartFault>
+        ensures fit { IfOk result (λ s. ShapeFits top fy breadths.now × (table_strip s.top s.fy s.breadths.now ≡ table_strip top fy breadths.now)) }
+        ensures unfit { IfErr result (λ f. (f ≡ OutsideLimits) × (ShapeFits top fy breadths.now → ⊥)) }
+    {
+        Shape::tried(top, fy, breadths)?;
+        Ok(Shape { top, fy, breadths })
+    }
+
+    // The shape of the table, or the empty one where the table is unfit, for a caller who has tried it; `try_new` tells the refusal.
     pub fn new(top: u16, fy: u32, breadths: &'a [u16]) -> Shape<'a>
         ensures fit { ShapeFits top fy breadths.now → table_strip result.top result.fy result.breadths.now ≡ table_strip top fy breadths.now }
         ensures unfit { (ShapeFits top fy breadths.now → ⊥) → table_strip result.top result.fy result.breadths.now ≡ no_strips }
     {
-        match Shape::tried(top, fy, breadths) {
-            Ok(()) => Shape { top, fy, breadths },
-            Err(_) => Shape::empty(),
-        }
+        Shape::try_new(top, fy, breadths).unwrap_or(Shape::empty())
     }
 }
 
@@ -81,24 +97,26 @@ impl Part for Shape<'_> {
 
     fn resultants(&self, _sense: Sense, level: u16) -> Resultants {
         let level = level.min(LOWEST);
-        let mut above: u64 = 0;
-        let mut below: u64 = 0;
-        let mut moment: u64 = 0;
-        for (i, breadth) in self.breadths.iter().enumerate() {
+        let mut at = Resultants::default();
+        // by index: over `(self.top..).zip(self.breadths)` the check ties no strip to its place in the table
+        for (i, &breadth) in self.breadths.iter().enumerate() {
             let strip = self.top + i as u16;
-            let force = *breadth as u64 * self.fy as u64;
-            if strip < level {
-                above += force;
-                moment += force * (2 * (level - strip) as u64 - 1);
+            let force = u64::from(breadth) * u64::from(self.fy);
+            let one = if strip < level {
+                Resultants {
+                    above: force,
+                    below: 0,
+                    moment: force * (2 * u64::from(level - strip) - 1),
+                }
             } else {
-                below += force;
-                moment += force * (2 * (strip - level) as u64 + 1);
-            }
+                Resultants {
+                    above: 0,
+                    below: force,
+                    moment: force * (2 * u64::from(strip - level) + 1),
+                }
+            };
+            at += one;
         }
-        Resultants {
-            above,
-            below,
-            moment,
-        }
+        at
     }
 }

@@ -3,7 +3,7 @@ ghost use Rattle.kinds.specs.Decks.{SlabBlock};
 
 use section::{BROADEST, Block};
 
-#[derive(Clone, Copy)]
+#[derive(Clone, Copy, Debug, PartialEq, Eq)]
 pub struct Slab {
     pub top: u16,
     pub breadth: u16,
@@ -17,16 +17,16 @@ impl Slab {
     pub(crate) fn block(&self) -> Option<Block>
         ensures { SlabBlock self.now result }
     {
-        if self.breadth < 1 || self.breadth > BROADEST || self.height < 1 {
+        if !(1..=BROADEST).contains(&self.breadth) || self.height < 1 {
             return None;
         }
-        if self.fc < 2000 || self.fc > 10_000 || self.fc % 20 != 0 {
+        if !(2000..=10_000).contains(&self.fc) || self.fc % 20 != 0 {
             return None;
         }
         Block::new(
             self.top,
             self.height,
-            self.breadth as u64 * 17 * self.fc as u64 / 20,
+            u64::from(self.breadth) * 17 * u64::from(self.fc) / 20,
         )
     }
 }

@@ -5,3 +5,5 @@ pub mod Search
 pub mod Unique
 pub mod ClosedForm
 pub mod Stacks
+pub mod Adding
+pub mod Factored

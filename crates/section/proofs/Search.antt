@@ -3,6 +3,8 @@ use Rattle.std.proofs.Common.{◌≡◌, ℕ, suc, ◌+◌, ◌-◌, ◌<◌, �
 use Rattle.faults.specs.declared.question.QuestionFault.{QuestionFault}
 use Rattle.section.specs.declared.sense.Sense.{Sense}
 use Rattle.section.specs.declared.sense.Sense.TheVariants.{Sagging, Hogging}
+use Rattle.section.specs.declared.axis.Axis.{Axis}
+use Rattle.section.specs.declared.forces.Forces.{Forces}
 use Rattle.section.specs.declared.resultants.Resultants.{Resultants}
 use Rattle.section.specs.Strips.{force_above, force_below, moment_at, imbalance_at, ◌⊕◌, moment_in, imbalance_in, strength_above, strength_below}
 use Rattle.section.specs.Parts.{EndsBy, IsDepth, IsForces, IsResultants}
@@ -29,7 +31,7 @@ module _ (s : Sense) (p q : ℕ → ℕ) where
   narrowed_depth : (d : ℕ) → d ≤ 4096 → EndsBy p q d → Narrowed s p q 0 d
   narrowed_depth d w e = record { ordered = omega arith; bounded = w; lighter = λ j l. omega arith; heavier = λ _. omega (arith, below_past s p q d e) }
 
-  pub narrowed_low : (low high m : ℕ) (t : ℕ × ℕ) → Narrowed s p q low high → m < high → IsForces s p q (min m 4096) t → t.0 < t.1 → Narrowed s p q (m + 1) high
+  pub narrowed_low : (low high m : ℕ) (t : Forces) → Narrowed s p q low high → m < high → IsForces s p q (min m 4096) t → t.above < t.below → Narrowed s p q (m + 1) high
   narrowed_low low high m t r l h lt =
       let e : min m 4096 ≡ m = omega (arith, r.bounded) in
       let a = rw e at h.above_is in
@@ -41,7 +43,7 @@ module _ (s : Sense) (p q : ℕ → ℕ) where
         heavier = r.heavier;
       }
 
-  pub narrowed_high : (low high m : ℕ) (t : ℕ × ℕ) → Narrowed s p q low high → low ≤ m → m < high → IsForces s p q (min m 4096) t → t.1 ≤ t.0 → Narrowed s p q low m
+  pub narrowed_high : (low high m : ℕ) (t : Forces) → Narrowed s p q low high → low ≤ m → m < high → IsForces s p q (min m 4096) t → t.below ≤ t.above → Narrowed s p q low m
   narrowed_high low high m t r o l h le =
       let e : min m 4096 ≡ m = omega (arith, r.bounded) in
       let a = rw e at h.above_is in
@@ -52,7 +54,7 @@ module _ (s : Sense) (p q : ℕ → ℕ) where
   pub turning_axis : (k : ℕ) → k ≤ 4096 →
       (k < 4096 → force_below 4096 (strength_below s p q) k + force_below 4096 (strength_below s p q) (suc k) ≤ force_above (strength_above s p q) k + force_above (strength_above s p q) (suc k)) →
       ((j : ℕ) → suc j ≡ k → force_above (strength_above s p q) j + force_above (strength_above s p q) k < force_below 4096 (strength_below s p q) j + force_below 4096 (strength_below s p q) k) →
-      IsAxis s p q (k, moment_in s p q k, imbalance_in s p q k)
+      IsAxis s p q (record { level = k; moment = moment_in s p q k; imbalance = imbalance_in s p q k })
   turning_axis k w rise fall =
       let up : ℕ → ℕ = strength_above s p q in
       let down : ℕ → ℕ = strength_below s p q in
@@ -66,7 +68,7 @@ module _ (s : Sense) (p q : ℕ → ℕ) where
       }
 
   -- so the answer of its resultants is the axis answer
-  settled : (k : ℕ) (t : Resultants) (r : Result (ℕ × ℕ × ℕ) QuestionFault) → k ≤ 4096 →
+  settled : (k : ℕ) (t : Resultants) (r : Result Axis QuestionFault) → k ≤ 4096 →
       (k < 4096 → force_below 4096 (strength_below s p q) k + force_below 4096 (strength_below s p q) (suc k) ≤ force_above (strength_above s p q) k + force_above (strength_above s p q) (suc k)) →
       ((j : ℕ) → suc j ≡ k → force_above (strength_above s p q) j + force_above (strength_above s p q) k < force_below 4096 (strength_below s p q) j + force_below 4096 (strength_below s p q) k) →
       IsResultants s p q (min k 4096) t → Judged k t r → AxisAnswer s p q r
@@ -83,7 +85,7 @@ module _ (s : Sense) (p q : ℕ → ℕ) where
       (c.0, record { level = k; within = w; none = omega arith })
 
   -- the level before the one that was found has no larger moment
-  pub at_before : (low high : ℕ) (b t : Resultants) (r : Result (ℕ × ℕ × ℕ) QuestionFault) → Narrowed s p q low high → high ≤ low → 0 < low →
+  pub at_before : (low high : ℕ) (b t : Resultants) (r : Result Axis QuestionFault) → Narrowed s p q low high → high ≤ low → 0 < low →
       IsResultants s p q (min (low - 1) 4096) b → IsResultants s p q (min low 4096) t → b.moment ≤ t.moment → Judged (low - 1) b r → AxisAnswer s p q r
   at_before low high b t r n l pos hb ht le c =
       let e : min low 4096 ≡ low = omega (arith, n.bounded, n.ordered) in
@@ -101,7 +103,7 @@ module _ (s : Sense) (p q : ℕ → ℕ) where
       hb c
 
   -- or it has a larger one
-  pub at_here : (low high : ℕ) (t : Resultants) (r : Result (ℕ × ℕ × ℕ) QuestionFault) → Narrowed s p q low high → high ≤ low →
+  pub at_here : (low high : ℕ) (t : Resultants) (r : Result Axis QuestionFault) → Narrowed s p q low high → high ≤ low →
       ((j : ℕ) → suc j ≡ low → moment_at 4096 (strength_above s p q) (strength_below s p q) low < moment_at 4096 (strength_above s p q) (strength_below s p q) j) →
       IsResultants s p q (min low 4096) t → Judged low t r → AxisAnswer s p q r
   at_here low high t r n l less ht c =

@@ -3,13 +3,14 @@ use Rattle.std.proofs.Common.{◌≡◌, ℕ, zero, suc, ◌+◌, ◌*◌, ◌^�
 use mathlib.Core.Path.{fun_ext}
 use Rattle.std.proofs.lemmas.List.{take_more}
 use Rattle.section.specs.declared.sense.Sense.{Sense}
+use Rattle.section.specs.declared.forces.Forces.{Forces}
 use Rattle.section.specs.declared.resultants.Resultants.{Resultants}
 use Rattle.section.specs.declared.block.Block.{Block}
-use Rattle.section.specs.Strips.{sum_to, force_above, force_below, ◌⊕◌}
+use Rattle.section.specs.Strips.{sum_to, ◌⊕◌}
 use Rattle.section.specs.Parts.{IsDepth, IsForces, IsResultants}
 use Rattle.section.specs.Blocks.{strips, stacked, stacked_total}
 use Rattle.section.specs.BlockLaws.{stacked-sum}
-use Rattle.section.proofs.Together.{forces_both, forces_small, forces_alike, resultants_both, resultants_small, depth_both}
+use Rattle.section.proofs.Together.{forces_both, forces_small, resultants_both, resultants_small, depth_both}
 
 -- one block more
 stacked_push : (bs : List Block) (b : Block) (i : ℕ) → stacked (bs ++ (b ∷ [])) i ≡ stacked bs i + strips b i
@@ -24,31 +25,29 @@ total-take zero bs = omega arith
 total-take (suc n) [] = omega arith
 total-take (suc n) (b ∷ bs) = let r = total-take n bs in omega arith
 
-pub resultants_next : (s : Sense) (bs : List Block) (i : ℕ) (d : Block) (k above below moment : ℕ) (r : Resultants) → i < length bs →
-    IsResultants s (stacked (take i bs)) (stacked (take i bs)) k (record { above = above; below = below; moment = moment }) → IsResultants s (strips (get_or bs i d)) (strips (get_or bs i d)) k r →
-    IsResultants s (stacked (take (i + 1) bs)) (stacked (take (i + 1) bs)) k (record { above = above + r.above; below = below + r.below; moment = moment + r.moment })
-resultants_next s bs i d k above below moment r l x y =
-    rw (stacked_next bs i d l)
-    (resultants_both s (stacked (take i bs)) (strips (get_or bs i d)) (stacked (take i bs)) (strips (get_or bs i d)) k (record { above = above; below = below; moment = moment }) r x y)
+pub resultants_next : (s : Sense) (bs : List Block) (i : ℕ) (d : Block) (k : ℕ) (a r : Resultants) → i < length bs → IsResultants s (stacked (take i bs)) (stacked (take i bs)) k a →
+    IsResultants s (strips (get_or bs i d)) (strips (get_or bs i d)) k r →
+    IsResultants s (stacked (take (i + 1) bs)) (stacked (take (i + 1) bs)) k (record { above = a.above + r.above; below = a.below + r.below; moment = a.moment + r.moment })
+resultants_next s bs i d k a r l x y =
+    rw (stacked_next bs i d l) (resultants_both s (stacked (take i bs)) (strips (get_or bs i d)) (stacked (take i bs)) (strips (get_or bs i d)) k a r x y)
 
-pub forces_next : (s : Sense) (bs : List Block) (i : ℕ) (d : Block) (k above below a b : ℕ) → i < length bs → IsForces s (stacked (take i bs)) (stacked (take i bs)) k (above, below) →
-    a ≡ force_above (strips (get_or bs i d)) k → b ≡ force_below 4096 (strips (get_or bs i d)) k → IsForces s (stacked (take (i + 1) bs)) (stacked (take (i + 1) bs)) k (above + a, below + b)
-forces_next s bs i d k above below a b l x p q =
-    rw (stacked_next bs i d l)
-    (forces_both s (stacked (take i bs)) (strips (get_or bs i d)) (stacked (take i bs)) (strips (get_or bs i d)) k (above, below) (a, b) x (forces_alike s (strips (get_or bs i d)) k a b p q))
+pub forces_next : (s : Sense) (bs : List Block) (i : ℕ) (d : Block) (k : ℕ) (a r : Forces) → i < length bs → IsForces s (stacked (take i bs)) (stacked (take i bs)) k a →
+    IsForces s (strips (get_or bs i d)) (strips (get_or bs i d)) k r →
+    IsForces s (stacked (take (i + 1) bs)) (stacked (take (i + 1) bs)) k (record { above = a.above + r.above; below = a.below + r.below })
+forces_next s bs i d k a r l x y =
+    rw (stacked_next bs i d l) (forces_both s (stacked (take i bs)) (strips (get_or bs i d)) (stacked (take i bs)) (strips (get_or bs i d)) k a r x y)
 
-pub stack_small : (s : Sense) (bs : List Block) (i k above below moment : ℕ) → stacked_total bs ≤ 2 ^ 36 →
-    IsResultants s (stacked (take i bs)) (stacked (take i bs)) (min k 4096) (record { above = above; below = below; moment = moment }) →
-    (above ≤ 2 ^ 36) × (below ≤ 2 ^ 36) × (moment ≤ 2 ^ 50)
-stack_small s bs i k above below moment light h =
+pub stack_small : (s : Sense) (bs : List Block) (i k : ℕ) (r : Resultants) → stacked_total bs ≤ 2 ^ 36 → IsResultants s (stacked (take i bs)) (stacked (take i bs)) (min k 4096) r →
+    (r.above ≤ 2 ^ 36) × (r.below ≤ 2 ^ 36) × (r.moment ≤ 2 ^ 50)
+stack_small s bs i k r light h =
     let l : sum_to (stacked (take i bs)) 4096 ≤ 2 ^ 36 = omega (arith, stacked-sum (take i bs), total-take i bs) in
-    resultants_small s (stacked (take i bs)) (stacked (take i bs)) k (record { above = above; below = below; moment = moment }) l l h
+    resultants_small s (stacked (take i bs)) (stacked (take i bs)) k r l l h
 
-pub stack_forces_small : (s : Sense) (bs : List Block) (i k above below : ℕ) → stacked_total bs ≤ 2 ^ 36 →
-    IsForces s (stacked (take i bs)) (stacked (take i bs)) (min k 4096) (above, below) → (above ≤ 2 ^ 36) × (below ≤ 2 ^ 36)
-stack_forces_small s bs i k above below light h =
+pub stack_forces_small : (s : Sense) (bs : List Block) (i k : ℕ) (r : Forces) → stacked_total bs ≤ 2 ^ 36 → IsForces s (stacked (take i bs)) (stacked (take i bs)) (min k 4096) r →
+    (r.above ≤ 2 ^ 36) × (r.below ≤ 2 ^ 36)
+stack_forces_small s bs i k r light h =
     let l : sum_to (stacked (take i bs)) 4096 ≤ 2 ^ 36 = omega (arith, stacked-sum (take i bs), total-take i bs) in
-    forces_small s (stacked (take i bs)) (stacked (take i bs)) k (above, below) l l h
+    forces_small s (stacked (take i bs)) (stacked (take i bs)) k r l l h
 
 pub depth_next : (bs : List Block) (i : ℕ) (d : Block) (m n : ℕ) → i < length bs → IsDepth (stacked (take i bs)) (stacked (take i bs)) m → IsDepth (strips (get_or bs i d)) (strips (get_or bs i d)) n →
     IsDepth (stacked (take (i + 1) bs)) (stacked (take (i + 1) bs)) (max m n)

@@ -2,10 +2,13 @@
 use Rattle.std.proofs.Common.{◌≡◌, ℕ, ◌+◌, ◌-◌, ◌*◌, ◌^◌, ◌<◌, ◌≤◌, min, max, refl, ◌∙◌, add-mul, mul-le-mul_left, arith}
 use Rattle.section.specs.declared.sense.Sense.{Sense}
 use Rattle.section.specs.declared.sense.Sense.TheVariants.{Sagging, Hogging}
+use Rattle.section.specs.declared.forces.Forces.{Forces}
 use Rattle.section.specs.declared.resultants.Resultants.{Resultants}
 use Rattle.section.specs.Strips.{sum_to, force_above, force_below, moment_above, moment_below, no_strips, ◌⊕◌, strength_above, strength_below}
 use Rattle.section.specs.Parts.{Lawful, IsDepth, IsForces, IsResultants}
+use Rattle.section.specs.Adding.{forces_sum}
 use Rattle.section.specs.Sums.{sum_to_cong, sum_to_add, sum_to_le, sum_to_split, sum_to-times, zeros}
+use Rattle.section.proofs.Adding.{forces_whole}
 
 above_both : (s : Sense) (p q r t : ℕ → ℕ) → strength_above s (p ⊕ q) (r ⊕ t) ≡ strength_above s p r ⊕ strength_above s q t
 above_both Sagging p q r t = refl
@@ -69,7 +72,7 @@ strength_below-sum Sagging p q n b x y = y
 strength_below-sum Hogging p q n b x y = x
 
 -- the forces of a part whose pushes and pulls each sum to at most 2 ^ 36
-pub forces_small : (s : Sense) (p q : ℕ → ℕ) (k : ℕ) (r : ℕ × ℕ) → sum_to p 4096 ≤ 2 ^ 36 → sum_to q 4096 ≤ 2 ^ 36 → IsForces s p q (min k 4096) r → (r.0 ≤ 2 ^ 36) × (r.1 ≤ 2 ^ 36)
+pub forces_small : (s : Sense) (p q : ℕ → ℕ) (k : ℕ) (r : Forces) → sum_to p 4096 ≤ 2 ^ 36 → sum_to q 4096 ≤ 2 ^ 36 → IsForces s p q (min k 4096) r → (r.above ≤ 2 ^ 36) × (r.below ≤ 2 ^ 36)
 forces_small s p q k r x y h =
     let l : min k 4096 ≤ 4096 = omega arith in
     let a = force_above_le 4096 (strength_above s p q) (min k 4096) l in
@@ -96,12 +99,12 @@ pub lawful_small : {S : Type 0} {pushes pulls : S → ℕ → ℕ} → Lawful pu
     (r.above ≤ 2 ^ 36) × (r.below ≤ 2 ^ 36) × (r.moment ≤ 2 ^ 50)
 lawful_small laws x s k r h = resultants_small s _ _ k r (laws.pushes_light x) (laws.pulls_light x) h
 
-pub lawful_forces_small : {S : Type 0} {pushes pulls : S → ℕ → ℕ} → Lawful pushes pulls → (x : S) (s : Sense) (k : ℕ) (r : ℕ × ℕ) → IsForces s (pushes x) (pulls x) (min k 4096) r →
-    (r.0 ≤ 2 ^ 36) × (r.1 ≤ 2 ^ 36)
+pub lawful_forces_small : {S : Type 0} {pushes pulls : S → ℕ → ℕ} → Lawful pushes pulls → (x : S) (s : Sense) (k : ℕ) (r : Forces) → IsForces s (pushes x) (pulls x) (min k 4096) r →
+    (r.above ≤ 2 ^ 36) × (r.below ≤ 2 ^ 36)
 lawful_forces_small laws x s k r h = forces_small s _ _ k r (laws.pushes_light x) (laws.pulls_light x) h
 
 -- the forces of two parts together are the sums of theirs
-pub forces_both : (s : Sense) (p q r t : ℕ → ℕ) (k : ℕ) (a b : ℕ × ℕ) → IsForces s p r k a → IsForces s q t k b → IsForces s (p ⊕ q) (r ⊕ t) k (a.0 + b.0, a.1 + b.1)
+pub forces_both : (s : Sense) (p q r t : ℕ → ℕ) (k : ℕ) (a b : Forces) → IsForces s p r k a → IsForces s q t k b → IsForces s (p ⊕ q) (r ⊕ t) k (record { above = a.above + b.above; below = a.below + b.below })
 forces_both s p q r t k a b x y =
     let u = above_both s p q r t in
     let d = below_both s p q r t in
@@ -109,6 +112,14 @@ forces_both s p q r t k a b x y =
       above_is = rw u (omega (arith, force_above_both (strength_above s p r) (strength_above s q t) k));
       below_is = rw d (omega (arith, force_below_both 4096 (strength_below s p r) (strength_below s q t) k));
     }
+
+-- so what two lawful parts give, added
+pub lawful_forces_both : {S T : Type 0} {pushes pulls : S → ℕ → ℕ} {pushes' pulls' : T → ℕ → ℕ} → Lawful pushes pulls → Lawful pushes' pulls' → (x : S) (y : T) (s : Sense) (k : ℕ) (a b r : Forces) →
+    IsForces s (pushes x) (pulls x) (min k 4096) a → IsForces s (pushes' y) (pulls' y) (min k 4096) b → r ≡ forces_sum a b → IsForces s (pushes x ⊕ pushes' y) (pulls x ⊕ pulls' y) (min k 4096) r
+lawful_forces_both laws laws' x y s k a b r h h' is =
+    let p = lawful_forces_small laws x s k a h in
+    let q = lawful_forces_small laws' y s k b h' in
+    rw (is ∙ forces_whole a b (omega arith) (omega arith)) (forces_both s _ _ _ _ (min k 4096) a b h h')
 
 -- and so are the resultants
 pub resultants_both : (s : Sense) (p q r t : ℕ → ℕ) (k : ℕ) (a b : Resultants) → IsResultants s p r k a → IsResultants s q t k b →
@@ -151,7 +162,7 @@ resultants_none s k l =
     let o = moment_below_le 4096 (strength_below s (λ _. 0) (λ _. 0)) k l in
     record { above_is = omega arith; below_is = omega arith; moment_is = omega arith }
 
-pub forces_none : (s : Sense) (k : ℕ) → k ≤ 4096 → IsForces s no_strips no_strips k (0, 0)
+pub forces_none : (s : Sense) (k : ℕ) → k ≤ 4096 → IsForces s no_strips no_strips k (record { above = 0; below = 0 })
 forces_none s k l = let r = resultants_none s k l in record { above_is = r.above_is; below_is = r.below_is }
 
 -- strips that push and pull alike, by what those above the level and those below it give
@@ -165,6 +176,6 @@ pub halves_small : (f : ℕ → ℕ) (k a m b o : ℕ) → sum_to f 4096 ≤ 2 ^
 halves_small f k a m b o l p q r t =
     resultants_small Sagging f f k (record { above = a; below = b; moment = m + o }) l l (halves_alike Sagging f (min k 4096) a m b o p q r t)
 
-pub forces_alike : (s : Sense) (f : ℕ → ℕ) (k a b : ℕ) → a ≡ force_above f k → b ≡ force_below 4096 f k → IsForces s f f k (a, b)
+pub forces_alike : (s : Sense) (f : ℕ → ℕ) (k a b : ℕ) → a ≡ force_above f k → b ≡ force_below 4096 f k → IsForces s f f k (record { above = a; below = b })
 forces_alike Sagging f k a b p q = record { above_is = p; below_is = q }
 forces_alike Hogging f k a b p q = record { above_is = p; below_is = q }

@@ -2,11 +2,9 @@
 use Rattle.std.proofs.Common.{◌≡◌, ℕ, zero, suc, ◌+◌, ◌-◌, ◌<◌, ◌≤◌, ◌⊎◌, inl, inr, ⊎_elim, le_of_lt, arith}
 use native.Mathlib.Decide.{dec_lt}
 use Rattle.section.specs.Strips.{force_above, force_below, moment_at, imbalance_at}
+use Rattle.std.proofs.lemmas.Bool.{cases_lt}
 use Rattle.section.specs.Sums.{le_or_lt}
 use Rattle.section.proofs.Levels.{moment_step, above_le, below_ge}
-
-lt_or_le : (j k : ℕ) → (j < k) ⊎ (k ≤ j)
-lt_or_le j k = elim (dec_lt j k) [ yes p ↦ inl p | no q ↦ inr (omega arith) ]
 
 eq_or_lt : (k j : ℕ) → k ≤ j → (k ≡ j) ⊎ (k < j)
 eq_or_lt k j l = elim (dec_lt k j) [ yes p ↦ inr p | no q ↦ inl (omega arith) ]
@@ -75,4 +73,4 @@ module _ (n : ℕ) (up down : ℕ → ℕ) (k : ℕ) (within : k ≤ n)
       omega arith
 
   pub even : (j : ℕ) → j ≤ n → imbalance_at n up down k ≤ imbalance_at n up down j
-  even j h = ⊎_elim (even_before j) (λ l. ⊎_elim (λ e. rw e (omega arith)) (λ g. even_after j g h) (eq_or_lt k j l)) (lt_or_le j k)
+  even j h = ⊎_elim (even_before j) (λ l. ⊎_elim (λ e. rw e (omega arith)) (λ g. even_after j g h) (eq_or_lt k j l)) (cases_lt j k)

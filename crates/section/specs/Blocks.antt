@@ -1,6 +1,7 @@
 -- A rectangular block: the strips from its top on, as many as its height, all with the same strength.
 use Rattle.std.specs.Prelude.{◌≡◌, ℕ, ◌+◌, ◌*◌, ◌^◌, ◌≤◌, cond, List, [], ◌∷◌, Some, None, Option, nat_lt}
 use Rattle.section.specs.declared.block.Block.{Block}
+use Rattle.section.specs.declared.side.Side.{Side}
 use Rattle.section.specs.Strips.{force_above, force_below, moment_above, moment_below}
 
 unfoldable pub block_strip : ℕ → ℕ → ℕ → ℕ → ℕ
@@ -30,13 +31,13 @@ BlockMade top height strength (Some b) = (b.top ≡ top) × (b.height ≡ height
 BlockMade top height strength None = BlockFits top height strength → ⊥
 
 -- the force and the moment of its strips on one side of the level k
-pub record IsAbove (b : Block) (k : ℕ) (r : ℕ × ℕ) : Type 0 where
-  pub force_is : r.0 ≡ force_above (strips b) k
-  pub moment_is : r.1 ≡ moment_above (strips b) k
+pub record IsAbove (b : Block) (k : ℕ) (r : Side) : Type 0 where
+  pub force_is : r.force ≡ force_above (strips b) k
+  pub moment_is : r.moment ≡ moment_above (strips b) k
 
-pub record IsBelow (b : Block) (k : ℕ) (r : ℕ × ℕ) : Type 0 where
-  pub force_is : r.0 ≡ force_below 4096 (strips b) k
-  pub moment_is : r.1 ≡ moment_below 4096 (strips b) k
+pub record IsBelow (b : Block) (k : ℕ) (r : Side) : Type 0 where
+  pub force_is : r.force ≡ force_below 4096 (strips b) k
+  pub moment_is : r.moment ≡ moment_below 4096 (strips b) k
 
 -- the force and the moment of strips of the same strength, by the ways from the level to their nearer and their farther end; each equation adds what is taken away
 pub record IsBetween (strength near far : ℕ) (r : ℕ × ℕ) : Type 0 where

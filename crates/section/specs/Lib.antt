@@ -4,3 +4,4 @@ pub mod Parts
 pub mod Axis
 pub mod Blocks
 pub mod BlockLaws
+pub mod Adding

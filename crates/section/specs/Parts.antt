@@ -1,6 +1,7 @@
 -- What a part is known by: its strips' pushes and pulls, its depth, and its resultants at a level.
 use Rattle.std.specs.Prelude.{◌≡◌, ℕ, ◌^◌, ◌≤◌}
 use Rattle.section.specs.declared.sense.Sense.{Sense}
+use Rattle.section.specs.declared.forces.Forces.{Forces}
 use Rattle.section.specs.declared.resultants.Resultants.{Resultants}
 use Rattle.section.specs.Strips.{sum_to, strength_above, strength_below, force_above, force_below, moment_at}
 
@@ -22,9 +23,9 @@ pub record IsDepth (pushes pulls : ℕ → ℕ) (depth : ℕ) : Type 0 where
   pub least : (d : ℕ) → EndsBy pushes pulls d → depth ≤ d
 
 -- the forces above and below the level k
-pub record IsForces (sense : Sense) (pushes pulls : ℕ → ℕ) (k : ℕ) (r : ℕ × ℕ) : Type 0 where
-  pub above_is : r.0 ≡ force_above (strength_above sense pushes pulls) k
-  pub below_is : r.1 ≡ force_below 4096 (strength_below sense pushes pulls) k
+pub record IsForces (sense : Sense) (pushes pulls : ℕ → ℕ) (k : ℕ) (r : Forces) : Type 0 where
+  pub above_is : r.above ≡ force_above (strength_above sense pushes pulls) k
+  pub below_is : r.below ≡ force_below 4096 (strength_below sense pushes pulls) k
 
 -- the resultants at the level k: the same forces, and the moment
 pub record IsResultants (sense : Sense) (pushes pulls : ℕ → ℕ) (k : ℕ) (r : Resultants) : Type 0 where

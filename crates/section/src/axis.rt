@@ -1,73 +1,9 @@
-// The plastic neutral axis of two parts together.
-ghost use Rattle.std.specs.Prelude.{min};
-ghost use Rattle.section.specs.Strips.{◌⊕◌};
-ghost use Rattle.section.specs.Parts.{IsForces, IsResultants};
-ghost use Rattle.section.specs.Axis.{AxisAnswer, Judged};
-
-use crate::part::Part;
-use crate::resultants::Resultants;
-use crate::sense::Sense;
-use faults::QuestionFault;
-
-// The forces of two parts together at a level.
-fn forces_together<P: Part, Q: Part>(first: &P, second: &Q, sense: Sense, level: u16) -> (u64, u64)
-    ensures { IsForces sense (P.Part.pushes first.now ⊕ Q.Part.pushes second.now) (P.Part.pulls first.now ⊕ Q.Part.pulls second.now) (min level 4096) result }
-{
-    let a = first.forces(sense, level);
-    let b = second.forces(sense, level);
-    (a.0 + b.0, a.1 + b.1)
-}
-
-// What two parts give together at a level.
-fn together<P: Part, Q: Part>(first: &P, second: &Q, sense: Sense, level: u16) -> Resultants
-    ensures { IsResultants sense (P.Part.pushes first.now ⊕ Q.Part.pushes second.now) (P.Part.pulls first.now ⊕ Q.Part.pulls second.now) (min level 4096) result }
-{
-    let a = first.resultants(sense, level);
-    let b = second.resultants(sense, level);
-    Resultants {
-        above: a.above + b.above,
-        below: a.below + b.below,
-        moment: a.moment + b.moment,
-    }
-}
-
-// The answer at the axis; refused with 11 where its moment is 0.
-fn judge(level: u16, at: Resultants) -> Result<(u16, u64, u64), QuestionFault>
-    ensures { Judged level at result }
-{
-    if at.moment == 0 {
-        return Err(QuestionFault::NoMoment);
-    }
-    Ok((level, at.moment, at.above.abs_diff(at.below)))
-}
-
-// The first level with the smallest plastic moment of the two parts together, that moment, and the imbalance there; refused with 11 where the moment is 0.
-pub fn plastic_axis<P: Part, Q: Part>(
-    first: &P,
-    second: &Q,
-    sense: Sense,
-) -> Result<(u16, u64, u64), QuestionFault>
-    ensures { AxisAnswer sense (P.Part.pushes first.now ⊕ Q.Part.pushes second.now) (P.Part.pulls first.now ⊕ Q.Part.pulls second.now) result }
-{
-    // the moment falls up to the first level with no less force above than below, or to the one before it
-    let mut low = 0;
-    // at the depth all force is above
-    let mut high = first.depth().max(second.depth());
-    while low < high {
-        let middle = (low + high) / 2;
-        let (above, below) = forces_together(first, second, sense, middle);
-        if above < below {
-            low = middle + 1;
-        } else {
-            high = middle;
-        }
-    }
-    let here = together(first, second, sense, low);
-    if low > 0 {
-        let before = together(first, second, sense, low - 1);
-        if before.moment <= here.moment {
-            return judge(low - 1, before);
-        }
-    }
-    judge(low, here)
+// A plastic neutral axis.
+#[derive(Clone, Copy, Debug, PartialEq, Eq)]
+pub struct Axis {
+    pub level: u16,
+    // the plastic moment about it, in force units at half a strip
+    pub moment: u64,
+    // by how much the forces above and below it differ
+    pub imbalance: u64,
 }

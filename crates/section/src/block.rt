@@ -1,7 +1,7 @@
 // A rectangular block: the same strength in each strip of a run.
 ghost use Rattle.std.specs.Prelude.{◌+◌, ◌*◌, ◌^◌, ◌≤◌};
 
-#[derive(Clone, Copy)]
+#[derive(Clone, Copy, Debug, PartialEq, Eq)]
 pub struct Block {
     pub(crate) top: u16,
     pub(crate) height: u16,

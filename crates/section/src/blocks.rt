@@ -2,29 +2,29 @@
 ghost use Rattle.std.specs.Prelude.{◌≡◌, ◌+◌, ◌*◌, ◌≤◌, min};
 ghost use Rattle.section.specs.declared.sense.Sense.{Sense as Senses};
 ghost use Rattle.section.specs.Strips.{force_above, force_below};
-ghost use Rattle.section.specs.Parts.{IsDepth, IsResultants};
+ghost use Rattle.section.specs.Parts.{IsDepth, IsForces, IsResultants};
 ghost use Rattle.section.specs.Blocks.{strips, BlockMade, IsAbove, IsBelow, IsBetween};
 
 use crate::block::Block;
+use crate::forces::Forces;
 use crate::limits::{LOWEST, STRONGEST};
 use crate::resultants::Resultants;
+use crate::side::Side;
 
 impl Block {
     // The block; none where it passes level 4,096 or a total force of 2^36.
     pub fn new(top: u16, height: u16, strength: u64) -> Option<Block>
         ensures { BlockMade top height strength result }
     {
-        if height > LOWEST || top > LOWEST - height {
+        let total = strength.checked_mul(height as u64)?;
+        if height > LOWEST || top > LOWEST - height || total > STRONGEST {
             return None;
         }
-        match strength.checked_mul(height as u64) {
-            Some(total) if total <= STRONGEST => Some(Block {
-                top,
-                height,
-                strength,
-            }),
-            _ => None,
-        }
+        Some(Block {
+            top,
+            height,
+            strength,
+        })
     }
 
     // A block of no strips.
@@ -57,20 +57,22 @@ impl Block {
     }
 
     // The force and the moment about a level of those of its strips that lie on one side, by the ways from the level to their nearer and their farther end.
-    fn between(&self, near: u64, far: u64) -> (u64, u64)
+    fn between(&self, near: u64, far: u64) -> Side
         requires ordered { near ≤ far }
         requires short { far ≤ near + self.now.height }
         requires shallow { far ≤ 4096 }
-        ensures { IsBetween self.now.strength near far result }
+        ensures { IsBetween self.now.strength near far (result.force, result.moment) }
     {
-        (
-            self.strength * (far - near),
-            self.strength * (far * far - near * near),
-        )
+        let force = self.strength * (far - near);
+        Side {
+            force,
+            moment: force * (far + near),
+        }
     }
 
-    // The force and the moment of its strips above a level; a level past 4,096 is read as 4,096.
-    pub fn above(&self, level: u16) -> (u64, u64)
+    // The force and the moment of its strips above a level; a level past 4,096 is read as 4,096. `below` is its mirror, and one function of
+    // both, told by a flag which way to count, would be no plainer.
+    pub fn above(&self, level: u16) -> Side
         ensures { IsAbove self.now (min level 4096) result }
     {
         let level = level.min(LOWEST) as u64;
@@ -81,7 +83,7 @@ impl Block {
     }
 
     // The force and the moment of its strips below a level; a level past 4,096 is read as 4,096.
-    pub fn below(&self, level: u16) -> (u64, u64)
+    pub fn below(&self, level: u16) -> Side
         ensures { IsBelow self.now (min level 4096) result }
     {
         let level = level.min(LOWEST) as u64;
@@ -91,7 +93,7 @@ impl Block {
         self.between(near, far)
     }
 
-    // The force alone of its strips above a level.
+    // The force alone of its strips above a level, as the search for the axis asks it; `force_below` is its mirror.
     pub fn force_above(&self, level: u16) -> u64
         ensures { result ≡ force_above (strips self.now) (min level 4096) }
     {
@@ -111,16 +113,26 @@ impl Block {
         self.strength * (ahead - before) as u64
     }
 
+    // The forces of its strips above and below a level, in either sense, where it pushes and pulls alike.
+    pub fn forces(&self, level: u16) -> Forces
+        ensures { (sense : Senses) → IsForces sense (strips self.now) (strips self.now) (min level 4096) result }
+    {
+        Forces {
+            above: self.force_above(level),
+            below: self.force_below(level),
+        }
+    }
+
     // What it gives at a level, in either sense, where it pushes and pulls alike.
     pub fn resultants(&self, level: u16) -> Resultants
         ensures { (sense : Senses) → IsResultants sense (strips self.now) (strips self.now) (min level 4096) result }
     {
-        let (above, moment_above) = self.above(level);
-        let (below, moment_below) = self.below(level);
+        let above = self.above(level);
+        let below = self.below(level);
         Resultants {
-            above,
-            below,
-            moment: moment_above + moment_below,
+            above: above.force,
+            below: below.force,
+            moment: above.moment + below.moment,
         }
     }
 }

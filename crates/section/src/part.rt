@@ -2,6 +2,7 @@
 ghost use Rattle.std.specs.Prelude.{ℕ, min};
 ghost use Rattle.section.specs.Parts.{Lawful, IsDepth, IsForces, IsResultants};
 
+use crate::forces::Forces;
 use crate::resultants::Resultants;
 use crate::sense::Sense;
 
@@ -19,15 +20,15 @@ pub trait Part {
     fn depth(&self) -> u16
         ensures { IsDepth (pushes self.now) (pulls self.now) result };
 
-    // The forces above and below a level and the moment about it; a level past 4,096 is read as 4,096.
+    // The forces above and below a level and the moment about it; a level past 4,096 is read as 4,096, which each clause says, since any level
+    // may be asked.
     fn resultants(&self, sense: Sense, level: u16) -> Resultants
         ensures { IsResultants sense (pushes self.now) (pulls self.now) (min level 4096) result };
 
     // The forces of `resultants` alone, which a kind may tell faster than with the moment.
-    fn forces(&self, sense: Sense, level: u16) -> (u64, u64)
+    fn forces(&self, sense: Sense, level: u16) -> Forces
         ensures { IsForces sense (pushes self.now) (pulls self.now) (min level 4096) result }
     {
-        let at = self.resultants(sense, level);
-        (at.above, at.below)
+        Forces::from(self.resultants(sense, level))
     }
 }

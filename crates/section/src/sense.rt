@@ -1,5 +1,5 @@
 // Which way a section bends.
-#[derive(Clone, Copy)]
+#[derive(Clone, Copy, Debug, PartialEq, Eq)]
 pub enum Sense {
     // the strips above a level push, those below pull
     Sagging,

@@ -7,4 +7,4 @@ use Rattle.kinds.proofs.deck.Deck.bar_forces.Given as goal
 abbrev pub invariant-loop-bar : goal.invariant-loop-bar
 invariant-loop-bar l =
     let f = stacked (take l.bar-index l.self.bars) in
-    (sense : Sense) → IsForces sense f f (min l.level 4096) (l.above, l.below)
+    (sense : Sense) → IsForces sense f f (min l.level 4096) l.forces

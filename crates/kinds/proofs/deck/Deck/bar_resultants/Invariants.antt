@@ -7,4 +7,4 @@ use Rattle.kinds.proofs.deck.Deck.bar_resultants.Given as goal
 abbrev pub invariant-loop-bar : goal.invariant-loop-bar
 invariant-loop-bar l =
     let f = stacked (take l.bar-index l.self.bars) in
-    (sense : Sense) → IsResultants sense f f (min l.level 4096) (record { above = l.above; below = l.below; moment = l.moment })
+    (sense : Sense) → IsResultants sense f f (min l.level 4096) l.at

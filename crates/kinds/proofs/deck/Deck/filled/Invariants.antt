@@ -3,4 +3,4 @@ use Rattle.kinds.proofs.Layers.{Put}
 use Rattle.kinds.proofs.deck.Deck.filled.Given as goal
 
 abbrev pub invariant-loop-i : goal.invariant-loop-i
-invariant-loop-i l = Put l.layers (l.block.strength * l.block.height) l.i l.bars l.total
+invariant-loop-i l = Put l.layers (l.slab.strength * l.slab.height) l.i l.bars l.total

@@ -1,7 +1,7 @@
 use Rattle.std.proofs.Common.{◌-◌}
 use Rattle.section.specs.Strips.{◌⊕◌}
 use Rattle.section.proofs.Search.{Narrowed}
-use Rattle.section.proofs.axis.plastic_axis.Given as goal
+use Rattle.section.proofs.axes.plastic_axis.Given as goal
 
 abbrev pub invariant-loop-low : goal.invariant-loop-low
 invariant-loop-low g l =
