@@ -1,10 +1,10 @@
 -- The number found by trying the lines in turn is that of the first line that applies.
-use Rattle.std.proofs.Common.{◌≡◌, ℕ, zero, suc, ◌+◌, ◌<◌, ◌≤◌, Bool, true, false, cond, ◌⊎◌, List, [], ◌∷◌, Some, None, Err, Option, sym, refl, ap, ◌∙◌, subst, inl, inr, arith, ne_eqb}
+use Rattle.std.proofs.Common.{◌≡◌, ℕ, zero, suc, ◌+◌, ◌<◌, ◌≤◌, Bool, true, false, cond, ◌⊎◌, List, [], ◌∷◌, Some, None, Ok, Err, Option, Result, sym, refl, ap, ◌∙◌, subst, inl, inr, arith, ne_eqb}
 use borrow.Author.Tests.{clash}
 use Rattle.std.proofs.lemmas.Bool.{cases_lt}
 use Rattle.faults.specs.declared.sheet.SheetFault.{SheetFault}
 use Rattle.faults.specs.Numbers.{sheet_number}
-use Rattle.sheet.specs.Ledger.{Ledger, Change, slot_of, applies, Refused, Accepted, first_of, refusal, changed, unless, after, Answers}
+use Rattle.sheet.specs.Ledger.{Ledger, Change, slot_of, applies, Refused, Accepted, first_of, refusal, changed, unless, after, Answers, Refuses}
 
 -- k numbers from a on
 up_from : ℕ → ℕ → List ℕ
@@ -64,9 +64,14 @@ module _ (L : Ledger) (c : Change) where
   pub accepted_back : Accepted L c → refusal L c ≡ None
   accepted_back a = rw (a 1, a 2, a 3, a 4, a 5, a 6, a 7, a 8, a 9) refl
 
-  -- a fault that has been given the call's slot
-  pub answered : (f g : SheetFault) (s : ℕ) → refusal L c ≡ Some (sheet_number f) → g ≡ record { reason = f.reason; slot = Some s } → Some s ≡ slot_of c → Answers L c (Err g)
-  answered f g s e is named = subst (λ (x : SheetFault). Refused L c (sheet_number x) × (x.slot ≡ slot_of c)) (sym is) (refused (sheet_number f) e, named)
+  -- an answer whose fault has been given the call's slot
+  abbrev pub Named : ℕ → Result (Unit {0}) SheetFault → Result (Unit {0}) SheetFault → Type 0
+  Named s (Ok u) r = r ≡ Ok u
+  Named s (Err f) r = r ≡ Err (record { reason = f.reason; slot = Some s })
+
+  pub answers : (s : ℕ) → Some s ≡ slot_of c → (res r : Result (Unit {0}) SheetFault) → Refuses L c res → Named s res r → Answers L c r
+  answers s named (Ok u) r e is = subst (Answers L c) (sym is) (accepted e)
+  answers s named (Err f) r e is = subst (Answers L c) (sym is) (refused (sheet_number f) e, named)
 
   -- what a call leaves, by its answer
   pub after_accepted : Accepted L c → after L c ≡ changed L c

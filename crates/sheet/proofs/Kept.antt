@@ -2,7 +2,7 @@
 use Rattle.std.proofs.Common.{◌≡◌, ℕ, zero, suc, ◌+◌, ◌*◌, ◌^◌, ◌<◌, ◌≤◌, Bool, true, false, ◌&&◌, eqb, leb, ◌⊎◌, List, length, set, is_some, Some, None, Option, refl, ap, ◌∙◌, inl, inr, mul-le-mul, arith, ltb-false, ne_eqb, le-leb}
 use Rattle.std.proofs.lemmas.List.{get_or-set_same, get_or-set_other, get_or_past}
 use Rattle.std.proofs.lemmas.List.Sums.{sum_by-set, sum_by-cons}
-use Rattle.std.proofs.lemmas.Bool.{cases_eq, cases_lt}
+use Rattle.std.proofs.lemmas.Bool.{cases_eq, cases_lt, and_parts, and_from}
 use Rattle.std.proofs.lemmas.Bool.Decides.{nat_tests}
 use Rattle.sheet.specs.declared.plate.Plate.{Plate}
 use Rattle.sheet.specs.declared.plate.PlateInput.{PlateInput}
@@ -11,15 +11,6 @@ use Rattle.sheet.specs.Plates.{role_number, role_of, is_sized, is_lawful, plate_
 use Rattle.sheet.specs.Invariants.{Light, within, within_in, Within}
 use Rattle.sheet.proofs.Lowering.{some_none, total_force_kept}
 use Rattle.sheet.proofs.Roles.{get_or-lowered, get_or-empties}
-use borrow.Author.Tests.{clash}
-
-and_parts : (a b : Bool) → (a && b) ≡ true → (a ≡ true) × (b ≡ true)
-and_parts true b e = (refl, e)
-and_parts false b e = absurd (clash e)
-
-and_from : (a b : Bool) → a ≡ true → b ≡ true → (a && b) ≡ true
-and_from true b e f = f
-and_from false b e f = e
 
 pub force_none : (o : Option Plate) → is_some o ≡ false → force_in o ≡ 0
 force_none None e = refl

@@ -6,7 +6,6 @@ pub mod Roles
 pub mod Kept
 pub mod RolePlaces
 pub mod PlateSums
-pub mod PlateLevels
 pub mod MeasuresKept
 pub mod PlateForces
 pub mod TotalKept

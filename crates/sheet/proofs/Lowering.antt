@@ -1,18 +1,18 @@
 -- What lowering every plate leaves.
 use Rattle.std.proofs.Common.{◌≡◌, ℕ, zero, suc, ◌+◌, ◌<◌, ◌≤◌, Bool, false, List, [], ◌∷◌, ◌++◌, map, length, get_or, take, drop, set, Some, None, Option, sym, refl, ap, ◌∙◌, arith, length-append, length-drop, length-take}
 use lib.ListN.{length-map}
+use Rattle.std.specs.List.{list_any}
 use Rattle.std.proofs.lemmas.List.{drop_more, get_or_at, get_or_default, take_all, drop_all, append-nil}
 use Rattle.std.proofs.lemmas.List.Edits.{map_over_more}
 use Rattle.std.proofs.lemmas.List.Sums.{sum_by-cons}
 use Rattle.std.proofs.lemmas.Bool.{or_parts}
 use Rattle.sheet.specs.declared.plate.Plate.{Plate}
-use Rattle.sheet.specs.Slots.{some_slot}
 use Rattle.sheet.specs.Plates.{force_in, total_force, lowered_in, lowered}
 
-pub some_none : {X : Type 0} (f : X → Bool) (xs : List X) (i : ℕ) (d : X) → i < length xs → some_slot f xs ≡ false → f (get_or xs i d) ≡ false
+pub some_none : {X : Type 0} (f : X → Bool) (xs : List X) (i : ℕ) (d : X) → i < length xs → list_any f xs ≡ false → f (get_or xs i d) ≡ false
 some_none f [] i d h e = absurd (omega arith)
-some_none f (x ∷ xs) zero d h e = (or_parts (f x) (some_slot f xs) e).0
-some_none f (x ∷ xs) (suc i) d h e = some_none f xs i d (omega arith) (or_parts (f x) (some_slot f xs) e).1
+some_none f (x ∷ xs) zero d h e = (or_parts (f x) (list_any f xs) e).0
+some_none f (x ∷ xs) (suc i) d h e = some_none f xs i d (omega arith) (or_parts (f x) (list_any f xs) e).1
 
 force_kept : (n : ℕ) (x : Option Plate) → force_in (lowered_in n x) ≡ force_in x
 force_kept n None = refl

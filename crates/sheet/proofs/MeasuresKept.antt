@@ -1,7 +1,7 @@
 -- The plates' measures after each change.
-use Rattle.std.proofs.Common.{◌≡◌, ℕ, zero, suc, ◌+◌, ◌-◌, ◌*◌, ◌%◌, ◌^◌, ◌<◌, ◌≤◌, min, Bool, true, false, ◌&&◌, eqb, ◌⊎◌, List, [], ◌∷◌, map, length, get_or, set, replicate, Some, None, Option, sym, refl, ap, ◌∙◌, inl, inr, mul-le-mul, arith, ltb-false, eq-eqb, eqb-true}
+use Rattle.std.proofs.Common.{◌≡◌, ℕ, zero, suc, ◌+◌, ◌-◌, ◌*◌, ◌%◌, ◌^◌, ◌<◌, ◌≤◌, min, true, false, ◌&&◌, eqb, ◌⊎◌, List, [], ◌∷◌, map, length, get_or, set, replicate, Some, None, Option, sym, refl, ap, ◌∙◌, inl, inr, mul-le-mul, arith, ltb-false, eq-eqb, eqb-true}
 use Rattle.std.proofs.lemmas.List.{get_or-set_same, get_or-set_other, get_or_past}
-use Rattle.std.proofs.lemmas.Bool.{cases_eq, cases_lt}
+use Rattle.std.proofs.lemmas.Bool.{cases_eq, cases_lt, and_parts}
 use Rattle.std.proofs.lemmas.Bool.Decides.{nat_tests}
 use Rattle.sheet.specs.declared.plate.Plate.{Plate}
 use Rattle.sheet.specs.Slots.{empties, content}
@@ -10,7 +10,6 @@ use Rattle.sheet.specs.Invariants.{within}
 use Rattle.sheet.specs.Measures.{fits_slot}
 use Rattle.sheet.proofs.Lowering.{some_none}
 use Rattle.sheet.proofs.Roles.{get_or-lowered, get_or-empties}
-use borrow.Author.Tests.{clash}
 
 -- a standing plate's breadth and yield
 sizes : (p : Plate) → within p ≡ true → (p.breadth ≤ 4096) × (p.fy ≤ 100000)
@@ -19,10 +18,6 @@ sizes p e = (grind (arith, nat_tests), grind (arith, nat_tests))
 -- which its measures hold whole
 pub whole : (p : Plate) → within p ≡ true → p.breadth * p.fy % 2 ^ 32 ≡ p.breadth * p.fy
 whole p e = let z = sizes p e in let m = mul-le-mul z.0 z.1 in omega arith
-
-and_parts : (a b : Bool) → (a && b) ≡ true → (a ≡ true) × (b ≡ true)
-and_parts true b e = (refl, e)
-and_parts false b e = absurd (clash e)
 
 pub record Fits (p : Plate) (top height strength : ℕ) : Type 0 where
   pub top_is : top ≡ p.top

@@ -64,12 +64,12 @@ rest_below f k l =
     omega arith
 
 pub forces_alike : (xs : List (Option Plate)) → Within xs → (level above total : ℕ) → above ≡ force_above (plate_strips xs) (min level 4096) → total ≡ total_force xs → (s : Sense) →
-    IsForces s (plate_strips xs) (plate_strips xs) (min level 4096) (above, total - above)
+    IsForces s (plate_strips xs) (plate_strips xs) (min level 4096) (record { above = above; below = total - above })
 forces_alike xs inside level above total a t s = go s
   where
     below : total - above ≡ force_below 4096 (plate_strips xs) (min level 4096)
     below = omega (arith, rest_below (plate_strips xs) (min level 4096) (omega arith), strips-sum xs inside)
 
-    go : (s : Sense) → IsForces s (plate_strips xs) (plate_strips xs) (min level 4096) (above, total - above)
+    go : (s : Sense) → IsForces s (plate_strips xs) (plate_strips xs) (min level 4096) (record { above = above; below = total - above })
     go Sagging = record { above_is = a; below_is = below }
     go Hogging = record { above_is = a; below_is = below }

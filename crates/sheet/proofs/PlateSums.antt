@@ -37,8 +37,8 @@ pub record IsBlock (p : Plate) (b : Block) : Type 0 where
 pub block_strips : (p : Plate) (b : Block) → IsBlock p b → strips b ≡ slot_strips (Some p)
 block_strips p b e = λ i. block_strip (e.top i) (e.height i) (e.strength i)
 
-pub moved_level : (f : ℕ → ℕ) (a k : ℕ) (t : Resultants) → a ≡ k → ((s : Sense) → IsResultants s f f a t) → (s : Sense) → IsResultants s f f k t
-moved_level f a k t e x s = subst (λ (n : ℕ). IsResultants s f f n t) e (x s)
+pub block_level : (p : Plate) (b : Block) → IsBlock p b → (k : ℕ) (t : Resultants) → ((s : Sense) → IsResultants s (strips b) (strips b) k t) → (s : Sense) → IsResultants s (slot_strips (Some p)) (slot_strips (Some p)) k t
+block_level p b e k t x s = subst (λ f. IsResultants s f f k t) (block_strips p b e) (x s)
 
 module _ (xs : List (Option Plate)) (i : ℕ) (h : i < length xs) where
   pub next : plate_strips (take (i + 1) xs) ≡ (plate_strips (take i xs) ⊕ slot_strips (get_or xs i None))

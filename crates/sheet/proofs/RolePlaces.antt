@@ -1,7 +1,8 @@
 -- Where the plates of roles 1, 2 and 3 stand, after each change.
-use Rattle.std.proofs.Common.{◌≡◌, ℕ, zero, suc, ◌+◌, ◌<◌, ◌≤◌, min, Bool, true, false, cond, ◌||◌, List, [], ◌∷◌, length, get_or, drop, set, is_some, Some, None, Option, sym, refl, ap, ◌∙◌, subst, arith}
-use Rattle.std.proofs.lemmas.List.{at_drop_more, at_drop_all}
+use Rattle.std.proofs.Common.{◌≡◌, ℕ, zero, suc, ◌+◌, ◌<◌, min, Bool, true, false, cond, ◌||◌, List, [], ◌∷◌, length, set, is_some, Some, None, Option, sym, refl, ap, ◌∙◌, subst, arith}
+use Rattle.std.specs.List.{position, position_from}
 use Rattle.std.specs.Option.{option_map}
+use Rattle.std.proofs.lemmas.Iterator.Adapters.{position_from-zero}
 use Rattle.sheet.specs.declared.plate.Role.{Role}
 use Rattle.sheet.specs.declared.plate.Role.TheVariants.{TopFlange, Web, BottomFlange, Other}
 use Rattle.sheet.specs.declared.plate.Plate.{Plate}
@@ -9,7 +10,7 @@ use Rattle.sheet.specs.Slots.{empties, content}
 use Rattle.sheet.specs.Plates.{clash, clash_in, stands, same_role, standing, lowered_in, lowered}
 use Rattle.sheet.specs.declared.role_slots.RoleSlots.{RoleSlots}
 use Rattle.sheet.specs.RoleSlots.{noted, earlier, slot_with, same_slot, Noted}
-use Rattle.sheet.proofs.Roles.{clash_sym}
+use Rattle.sheet.proofs.Roles.{clash_sym, none_of}
 use borrow.Author.Tests as tests
 
 same_is : (a b : Option ℕ) → same_slot a b ≡ true → a ≡ b
@@ -50,10 +51,6 @@ test_some false t (Some i) e = e
 pub stands-slot : (r : Role) (xs : List (Option Plate)) → stands r xs ≡ is_some (slot_with r xs)
 stands-slot r [] = refl
 stands-slot r (x ∷ xs) = test_some (clash_in r x) (stands r xs) (slot_with r xs) (stands-slot r xs)
-
-none_of : (o : Option ℕ) → is_some o ≡ false → o ≡ None
-none_of None e = refl
-none_of (Some i) e = absurd (tests.clash (sym e))
 
 no_slot : (r : Role) (xs : List (Option Plate)) → stands r xs ≡ false → slot_with r xs ≡ None
 no_slot r xs e = none_of (slot_with r xs) (sym (stands-slot r xs) ∙ e)
@@ -116,38 +113,30 @@ pub slot_below : (r : Role) (xs : List (Option Plate)) (i : ℕ) → Some i ≡ 
 slot_below r xs i e = subst (λ (o : Option ℕ). Below o (length xs)) (sym e) (slot_inside r xs)
 
 -- a slot counted from i on
-abbrev pub counted : ℕ → Option ℕ → Option ℕ
+counted : ℕ → Option ℕ → Option ℕ
 counted i None = None
 counted i (Some j) = Some (i + j)
 
-counted_suc : (i : ℕ) (o : Option ℕ) → counted i (option_map suc o) ≡ counted (i + 1) o
-counted_suc i None = refl
-counted_suc i (Some j) = ap Some (let z : i + suc j ≡ i + 1 + j = omega arith in z)
+-- the first one that a test passes, at an element and behind it
+counted_more : (b : Bool) (i : ℕ) (o q : Option ℕ) → q ≡ counted (i + 1) o → cond b (Some i) q ≡ counted i (cond b (Some 0) (option_map suc o))
+unfolding counted
+counted_more true i o q e = ap Some (let z : i ≡ i + 0 = omega arith in z)
+counted_more false i None q e = e
+counted_more false i (Some j) q e = e ∙ ap Some (let z : i + 1 + j ≡ i + suc j = omega arith in z)
 
-counted_zero : (o : Option ℕ) → o ≡ counted 0 o
+counted_from : (r : Role) (i : ℕ) (xs : List (Option Plate)) → position_from (clash_in r) i xs ≡ counted i (slot_with r xs)
+unfolding counted
+counted_from r i [] = refl
+counted_from r i (x ∷ xs) = counted_more (clash_in r x) i (slot_with r xs) (position_from (clash_in r) (i + 1) xs) (counted_from r (i + 1) xs)
+
+counted_zero : (o : Option ℕ) → counted 0 o ≡ o
+unfolding counted
 counted_zero None = refl
-counted_zero (Some j) = ap Some (let z : j ≡ 0 + j = omega arith in z)
+counted_zero (Some j) = ap Some (let z : 0 + j ≡ j = omega arith in z)
 
--- looking for a role's first slot, one slot after another
-module _ (r : Role) (xs : List (Option Plate)) where
-  pub slot_start : slot_with r xs ≡ counted 0 (slot_with r (drop 0 xs))
-  slot_start = counted_zero (slot_with r xs)
-
-  pub slot_end : (i : ℕ) → length xs ≤ i → slot_with r xs ≡ counted i (slot_with r (drop i xs)) → None ≡ slot_with r xs
-  slot_end i h e = sym (e ∙ ap (counted i) (at_drop_all (slot_with r) xs i h))
-
-  module _ (i : ℕ) (h : i < length xs) (x : Option Plate) (is : get_or xs i None ≡ x) (e : slot_with r xs ≡ counted i (slot_with r (drop i xs))) where
-    from_slot : slot_with r (drop i xs) ≡ slot_with r (x ∷ drop (i + 1) xs)
-    from_slot = at_drop_more (slot_with r) xs i None h ∙ ap (λ (y : Option Plate). slot_with r (y ∷ drop (i + 1) xs)) is
-
-    with_test : (b : Bool) → clash_in r x ≡ b → slot_with r xs ≡ counted i (cond b (Some 0) (option_map suc (slot_with r (drop (i + 1) xs))))
-    with_test b t = e ∙ ap (counted i) (from_slot ∙ ap (λ (b : Bool). cond b (Some 0) (option_map suc (slot_with r (drop (i + 1) xs)))) t)
-
-    pub slot_found : clash_in r x ≡ true → Some i ≡ slot_with r xs
-    slot_found t = sym (with_test true t ∙ ap Some (let z : i + 0 ≡ i = omega arith in z))
-
-    pub slot_passed : clash_in r x ≡ false → slot_with r xs ≡ counted (i + 1) (slot_with r (drop (i + 1) xs))
-    slot_passed t = with_test false t ∙ counted_suc i (slot_with r (drop (i + 1) xs))
+-- the first slot that the search finds
+pub position-slot : (r : Role) (xs : List (Option Plate)) → position (clash_in r) xs ≡ slot_with r xs
+position-slot r xs = position_from-zero (clash_in r) xs ∙ counted_from r 0 xs ∙ counted_zero (slot_with r xs)
 
 unclashed : (r : Role) (xs : List (Option Plate)) (s : ℕ) (v : Option Plate) → clash_in r v ≡ false → clash_in r (content xs s) ≡ false → slot_with r (set xs s v) ≡ slot_with r xs
 unclashed r [] s v e f = refl

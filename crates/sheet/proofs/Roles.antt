@@ -1,7 +1,8 @@
 -- The three roles stand at most once, after each change.
-use Rattle.std.proofs.Common.{◌≡◌, ℕ, zero, suc, ◌<◌, false, ◌⊎◌, List, [], ◌∷◌, length, get_or, set, Some, None, Option, refl, ap, ◌∙◌, inl, inr, arith}
+use Rattle.std.proofs.Common.{◌≡◌, ℕ, zero, suc, ◌<◌, false, ◌⊎◌, List, [], ◌∷◌, length, get_or, set, Some, None, Option, sym, is_some, refl, ap, ◌∙◌, inl, inr, arith}
 use Rattle.std.proofs.lemmas.List.{get_or-set_same, get_or-set_other}
 use Rattle.std.proofs.lemmas.Bool.{or_parts, cases_eq}
+use borrow.Author.Tests.{clash as no_test}
 use Rattle.sheet.specs.declared.plate.Role.{Role}
 use Rattle.sheet.specs.declared.plate.Role.TheVariants.{TopFlange, Web, BottomFlange, Other}
 use Rattle.sheet.specs.declared.plate.Plate.{Plate}
@@ -31,7 +32,11 @@ pub clash_of_sym : (x : Option Plate) (p : Plate) → clash_of x (Some p) ≡ cl
 clash_of_sym None p = refl
 clash_of_sym (Some q) p = clash_sym q.role p.role
 
-pub get_or-empties : (n i : ℕ) → get_or (empties {X = Plate} n) i None ≡ None
+pub none_of : {X : Type 0} (o : Option X) → is_some o ≡ false → o ≡ None
+none_of None e = refl
+none_of (Some x) e = absurd (no_test (sym e))
+
+pub get_or-empties : {X : Type 0} (n i : ℕ) → get_or (empties {X = X} n) i None ≡ None
 get_or-empties zero i = refl
 get_or-empties (suc n) zero = refl
 get_or-empties (suc n) (suc i) = get_or-empties n i

@@ -1,20 +1,31 @@
--- A test over all slots and a search through them, one slot after another.
-use Rattle.std.proofs.Common.{◌≡◌, ℕ, ◌+◌, ◌<◌, ◌≤◌, Bool, true, false, cond, ◌||◌, List, ◌∷◌, length, get_or, drop, Some, None, Option, ap, ◌∙◌}
-use Rattle.std.proofs.lemmas.List.{at_drop_more, at_drop_all, drop_more}
+-- The first standing plate of a role, looked for one slot after another.
+use Rattle.std.proofs.Common.{◌≡◌, ℕ, ◌+◌, ◌<◌, Bool, true, false, cond, List, ◌∷◌, length, get_or, drop, Some, None, Option, refl, ap, ◌∙◌}
+use Rattle.std.proofs.lemmas.List.{drop_more}
+use denote.Enum.Bare.{sameb}
+use Rattle.sheet.specs.contracts.plate.Role.{the_type}
 use Rattle.sheet.specs.declared.plate.Role.{Role}
+use Rattle.sheet.specs.declared.plate.Role.TheVariants.{TopFlange, Web, BottomFlange, Other}
 use Rattle.sheet.specs.declared.plate.Plate.{Plate}
-use Rattle.sheet.specs.Slots.{some_slot}
 use Rattle.sheet.specs.Plates.{same_role, standing}
 
-module _ {X : Type 0} (f : X → Bool) (xs : List X) (i : ℕ) where
-  pub some_yes : (d : X) → i < length xs → f (get_or xs i d) ≡ true → some_slot f (drop i xs) ≡ true
-  some_yes d h e = at_drop_more (some_slot f) xs i d h ∙ ap (λ b. b || some_slot f (drop (i + 1) xs)) e
-
-  pub some_no : (d : X) → i < length xs → f (get_or xs i d) ≡ false → some_slot f (drop i xs) ≡ some_slot f (drop (i + 1) xs)
-  some_no d h e = at_drop_more (some_slot f) xs i d h ∙ ap (λ b. b || some_slot f (drop (i + 1) xs)) e
-
-  pub some_end : length xs ≤ i → some_slot f (drop i xs) ≡ false
-  some_end h = at_drop_all (some_slot f) xs i h
+-- roles are equal where their numbers are
+pub role_test : (a b : Role) → sameb the_type a b ≡ same_role a b
+role_test TopFlange TopFlange = refl
+role_test TopFlange Web = refl
+role_test TopFlange BottomFlange = refl
+role_test TopFlange Other = refl
+role_test Web TopFlange = refl
+role_test Web Web = refl
+role_test Web BottomFlange = refl
+role_test Web Other = refl
+role_test BottomFlange TopFlange = refl
+role_test BottomFlange Web = refl
+role_test BottomFlange BottomFlange = refl
+role_test BottomFlange Other = refl
+role_test Other TopFlange = refl
+role_test Other Web = refl
+role_test Other BottomFlange = refl
+role_test Other Other = refl
 
 module _ (r : Role) (xs : List (Option Plate)) (i : ℕ) where
   from_here : (h : i < length xs) (x : Option Plate) → get_or xs i None ≡ x → standing r (drop i xs) ≡ standing r (x ∷ drop (i + 1) xs)

@@ -2,7 +2,6 @@
 use Rattle.std.proofs.Common.{◌≡◌, ℕ, zero, suc, ◌*◌, ◌^◌, ◌<◌, ◌≤◌, Bool, true, false, cond, eqb, ◌⊎◌, List, [], ◌∷◌, length, get_or, set, ℤ, pos, negsuc, ◌+ℤ◌, ◌-ℤ◌, neg_ℤ, nat_abs, is_some, Some, None, Option, sym, refl, ap, ◌∙◌, subst, inl, inr, arith, length-set, to_z-of_z, w64, SFits, to_z, of_z, eq-eqb, ne_eqb}
 use borrow.Author.Differences as diff
 use borrow.Author.Differences.{ints}
-use borrow.Author.Tests.{clash}
 use Rattle.std.proofs.lemmas.List.{get_or-set_same, get_or-set_other}
 use Rattle.std.proofs.lemmas.Bool.{cases_eq}
 use Rattle.loads.specs.declared.load_type.LoadType.{LoadType}
@@ -13,6 +12,7 @@ use Rattle.loads.specs.Kinds.{same_kind}
 use Rattle.loads.specs.Factors.{index}
 use Rattle.sheet.specs.declared.row.Row.{Row}
 use Rattle.sheet.specs.Slots.{empties, content}
+use Rattle.sheet.proofs.Roles.{get_or-empties, none_of}
 use Rattle.sheet.specs.Totals.{total, of_kind, adds, type_sum, type_sums, sixteenths_in, Small}
 
 total-set : {X : Type 0} (f : X → ℤ) (xs : List X) (i : ℕ) (v d : X) → i < length xs → total f (set xs i v) +ℤ f (get_or xs i d) ≡ total f xs +ℤ f v
@@ -20,7 +20,7 @@ total-set f [] i v d h = absurd (omega arith)
 total-set f (x ∷ xs) zero v d h = omega (arith, ints)
 total-set f (x ∷ xs) (suc i) v d h = let r = total-set f xs i v d (omega arith) in omega (arith, ints)
 
-halves : (s : ℤ) (h : ℕ) → nat_abs s ≤ h → (diff.up s ≤ h) × (diff.down s ≤ h)
+pub halves : (s : ℤ) (h : ℕ) → nat_abs s ≤ h → (diff.up s ≤ h) × (diff.down s ≤ h)
 halves (pos n) h l = omega arith
 halves (negsuc n) h l = omega arith
 
@@ -102,13 +102,8 @@ small_set xs s v h small e i = go (cases_eq i s)
     go (inr a) = subst (λ (o : Option Row). nat_abs (sixteenths_in o) ≤ 2 ^ 31) (sym (get_or-set_other xs s i v None a)) (small i)
 
 -- no rows
-none_at : (n i : ℕ) → content (empties {X = Row} n) i ≡ None
-none_at zero i = refl
-none_at (suc n) zero = refl
-none_at (suc n) (suc i) = none_at n i
-
 pub small_empties : (n : ℕ) → Small (empties n)
-small_empties n i = subst (λ (o : Option Row). nat_abs (sixteenths_in o) ≤ 2 ^ 31) (sym (none_at n i)) (omega arith)
+small_empties n i = subst (λ (o : Option Row). nat_abs (sixteenths_in o) ≤ 2 ^ 31) (sym (get_or-empties n i)) (omega arith)
 
 none_sum : (t : LoadType) (k : EffectKind) (n : ℕ) → type_sum t k (empties n) ≡ pos 0
 none_sum t k zero = refl
@@ -154,10 +149,6 @@ module _ (a b : ℤ) (p : nat_abs a ≤ 2 ^ 37) (q : nat_abs b ≤ 2 ^ 31) where
 
   minus_is : to_z w64 (of_z w64 (to_z w64 (of_z w64 a) -ℤ to_z w64 (of_z w64 b))) ≡ a +ℤ neg_ℤ b
   minus_is = let e : a -ℤ b ≡ a +ℤ neg_ℤ b = omega (arith, ints) in ap (λ (z : ℤ). to_z w64 (of_z w64 z)) minus ∙ to_z-of_z less_fits ∙ e
-
-none_of : (o : Option Row) → is_some o ≡ false → o ≡ None
-none_of None e = refl
-none_of (Some r) e = absurd (clash (sym e))
 
 cancel : (b : Bool) (z : ℤ) → pos 0 ≡ cond b z (pos 0) +ℤ cond b (neg_ℤ z) (pos 0)
 cancel true z = omega (arith, ints)

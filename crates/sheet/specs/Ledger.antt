@@ -23,7 +23,7 @@ blank = record { plates = empties 24; rows = empties 64 }
 
 -- what a sheet holds, as a ledger
 abbrev pub ledger : Sheet → Ledger
-ledger s = record { plates = s.plates.slots; rows = s.rows.slots }
+ledger s = record { plates = s.plates.slots.items; rows = s.rows.slots.items }
 
 -- a call that changes a sheet, by its arguments; a value as it was judged, its sixteenths or its fault
 pub data Change : Type 0 where

@@ -1,4 +1,5 @@
 pub mod Slots
+pub mod SlotNumbers
 pub mod Plates
 pub mod RoleSlots
 pub mod Measures

@@ -40,13 +40,13 @@ strips-sum (x ∷ xs) w =
 
 -- a sheet's plates, as what they push and as what they pull with
 abbrev pub sheet_strips : Sheet → ℕ → ℕ
-sheet_strips s = plate_strips s.plates.slots
+sheet_strips s = plate_strips s.plates.slots.items
 
 pub plates_laws : Lawful sheet_strips sheet_strips
 plates_laws = record {
-  pushes_end = λ s i h. strips_end s.plates.slots s.within i h;
-  pulls_end = λ s i h. strips_end s.plates.slots s.within i h;
-  pushes_light = λ s. let l = s.light in omega (arith, strips-sum s.plates.slots s.within);
-  pulls_light = λ s. let l = s.light in omega (arith, strips-sum s.plates.slots s.within);
+  pushes_end = λ s i h. strips_end s.plates.slots.items s.within i h;
+  pulls_end = λ s i h. strips_end s.plates.slots.items s.within i h;
+  pushes_light = λ s. let l = s.light in omega (arith, strips-sum s.plates.slots.items s.within);
+  pulls_light = λ s. let l = s.light in omega (arith, strips-sum s.plates.slots.items s.within);
   weaker_pull = λ s i. omega arith;
 }

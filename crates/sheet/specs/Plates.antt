@@ -1,10 +1,12 @@
 -- Plates: their limits, and what the standing ones come to together. Lengths in sixteenths of an inch, yield strength fy in psi.
-use Rattle.std.specs.Prelude.{ℕ, ◌+◌, ◌*◌, Bool, false, cond, not, ◌&&◌, ◌||◌, List, [], ◌∷◌, map, Some, None, sum_by, Option, ◌==◌, nat_le, nat_lt}
+use Rattle.std.specs.Prelude.{◌≡◌, ℕ, ◌+◌, ◌*◌, Bool, true, false, cond, not, ◌&&◌, ◌||◌, List, [], ◌∷◌, map, Some, None, Ok, Err, sum_by, Option, Result, ◌==◌, nat_le, nat_lt}
+use Rattle.std.specs.List.{list_any}
+use Rattle.faults.specs.declared.sheet.SheetFault.{SheetFault}
+use Rattle.faults.specs.declared.sheet.SheetReason.TheVariants.{PlateLimits}
 use Rattle.sheet.specs.declared.plate.Role.{Role}
 use Rattle.sheet.specs.declared.plate.Role.TheVariants.{TopFlange, Web, BottomFlange, Other}
 use Rattle.sheet.specs.declared.plate.Plate.{Plate}
 use Rattle.sheet.specs.declared.plate.PlateInput.{PlateInput}
-use Rattle.sheet.specs.Slots.{some_slot}
 
 -- the roles by number: 1 top flange, 2 web, 3 bottom flange, 4 other
 abbrev pub role_number : Role → ℕ
@@ -15,6 +17,11 @@ role_number Other = 4
 
 abbrev pub role_of : ℕ → Role
 role_of n = cond (n == 1) TopFlange (cond (n == 2) Web (cond (n == 3) BottomFlange Other))
+
+-- the role of a number; refused with 4 where it is none of 1 to 4
+abbrev pub ReadsRole : ℕ → Result Role SheetFault → Type 0
+ReadsRole n (Ok role) = role_number role ≡ n
+ReadsRole n (Err f) = (f ≡ record { reason = PlateLimits; slot = None }) × (nat_le 1 n && nat_le n 4 ≡ false)
 
 -- breadth and height 1 to 4,096, a yield of 30,000 to 100,000, and a web's breadth at most 64
 abbrev pub is_sized : Bool → ℕ → ℕ → ℕ → Bool
@@ -30,6 +37,11 @@ is_lawful p = (nat_le 1 p.role && nat_le p.role 4) && is_sized (p.role == 2) p.b
 -- the plate that is placed
 abbrev pub plate_of : PlateInput → Plate
 plate_of p = record { role = role_of p.role; top = p.top; breadth = p.breadth; height = p.height; fy = p.fy }
+
+-- the plate of an input within its limits; refused with 4 where it is outside them
+abbrev pub ReadsPlate : PlateInput → Result Plate SheetFault → Type 0
+ReadsPlate p (Ok plate) = (is_lawful p ≡ true) × (plate ≡ plate_of p)
+ReadsPlate p (Err f) = (f ≡ record { reason = PlateLimits; slot = None }) × (is_lawful p ≡ false)
 
 -- breadth × height × yield
 abbrev pub force : Plate → ℕ
@@ -53,7 +65,7 @@ clash_in r (Some p) = clash r p.role
 
 -- whether a plate stands that a role may not join
 abbrev pub stands : Role → List (Option Plate) → Bool
-stands r xs = some_slot (clash_in r) xs
+stands r xs = list_any (clash_in r) xs
 
 -- the first standing plate of a role
 abbrev pub same_role : Role → Role → Bool
@@ -70,7 +82,7 @@ passes_in n None = false
 passes_in n (Some p) = nat_lt 4096 (p.top + n + p.height)
 
 abbrev pub passes : ℕ → List (Option Plate) → Bool
-passes n xs = some_slot (passes_in n) xs
+passes n xs = list_any (passes_in n) xs
 
 abbrev pub lowered_plate : ℕ → Plate → Plate
 lowered_plate n p = record { role = p.role; top = p.top + n; breadth = p.breadth; height = p.height; fy = p.fy }

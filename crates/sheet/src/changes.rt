@@ -6,10 +6,11 @@ ghost use Rattle.sheet.specs.Ledger as calls;
 ghost use Rattle.sheet.specs.Ledger.{blank, ledger, after, Refuses, Answers};
 
 use crate::held::Sheet;
-use crate::plate::PlateInput;
+use crate::plate::{Plate, PlateInput};
 use crate::plates::Plates;
 use crate::row::Row;
 use crate::rows::Rows;
+use crate::slot::Slot;
 use faults::{SheetFault, SheetReason};
 use loads::{Effect, LoadType};
 use section::STRONGEST;
@@ -24,15 +25,15 @@ impl Sheet {
         }
     }
 
+    // Each change has two clauses, its answer and the slots after it: one readable fact each.
+
     // Puts a plate into a plate slot; refused with 1, 2, 4, 5 or 6.
     pub fn place(&mut self, slot: u8, plate: PlateInput) -> Result<(), SheetFault>
         ensures answer { Answers (ledger self.old) (calls.place slot plate) result }
         ensures slots { ledger self.new ≡ after (ledger self.old) (calls.place slot plate) }
     {
-        match self.try_place(slot, plate) {
-            Ok(()) => Ok(()),
-            Err(fault) => Err(fault.at_slot(slot)),
-        }
+        self.try_place(slot, plate)
+            .map_err(|fault| fault.at_slot(slot))
     }
 
     // Takes the plate out of a plate slot; refused with 1 or 3.
@@ -40,10 +41,7 @@ impl Sheet {
         ensures answer { Answers (ledger self.old) (calls.lift slot) result }
         ensures slots { ledger self.new ≡ after (ledger self.old) (calls.lift slot) }
     {
-        match self.try_lift(slot) {
-            Ok(()) => Ok(()),
-            Err(fault) => Err(fault.at_slot(slot)),
-        }
+        self.try_lift(slot).map_err(|fault| fault.at_slot(slot))
     }
 
     // Adds n to the top of every standing plate; refused with 9.
@@ -51,7 +49,11 @@ impl Sheet {
         ensures answer { Answers (ledger self.old) (calls.lower n) result }
         ensures slots { ledger self.new ≡ after (ledger self.old) (calls.lower n) }
     {
-        self.try_lower(n)
+        if self.plates.would_pass(n) {
+            return Err(SheetFault::new(SheetReason::TooLow));
+        }
+        self.plates.lower(n);
+        Ok(())
     }
 
     // Puts a row into an effect slot; refused with 1, 2, 7 or 8.
@@ -59,10 +61,8 @@ impl Sheet {
         ensures answer { Answers (ledger self.old) (calls.enter slot load (kind_of effect) (judged (value_of effect))) result }
         ensures slots { ledger self.new ≡ after (ledger self.old) (calls.enter slot load (kind_of effect) (judged (value_of effect))) }
     {
-        match self.try_enter(slot, load, effect) {
-            Ok(()) => Ok(()),
-            Err(fault) => Err(fault.at_slot(slot)),
-        }
+        self.try_enter(slot, load, effect)
+            .map_err(|fault| fault.at_slot(slot))
     }
 
     // Takes the row out of an effect slot; refused with 1 or 3.
@@ -70,28 +70,23 @@ impl Sheet {
         ensures answer { Answers (ledger self.old) (calls.strike slot) result }
         ensures slots { ledger self.new ≡ after (ledger self.old) (calls.strike slot) }
     {
-        match self.try_strike(slot) {
-            Ok(()) => Ok(()),
-            Err(fault) => Err(fault.at_slot(slot)),
-        }
+        self.try_strike(slot).map_err(|fault| fault.at_slot(slot))
     }
 
-    // The calls below make the changes; their faults do not name the slot yet.
+    // What is judged and kept of plates and of rows differs. Lifting and striking differ in the table alone; one function of both would take a
+    // trait of tables with its laws, for three lines.
+
+    // The calls below make the changes; their faults need not name the slot yet.
 
     fn try_place(&mut self, slot: u8, plate: PlateInput) -> Result<(), SheetFault>
         ensures answer { Refuses (ledger self.old) (calls.place slot plate) result }
         ensures slots { ledger self.new ≡ after (ledger self.old) (calls.place slot plate) }
     {
-        if slot >= 24 {
-            return Err(SheetFault::new(SheetReason::NoSlot));
-        }
-        if self.plates.is_full(slot) {
+        let slot = Slot::new(slot)?;
+        if self.plates.slots.get(slot).is_some() {
             return Err(SheetFault::new(SheetReason::SlotFull));
         }
-        if !plate.is_lawful() {
-            return Err(SheetFault::new(SheetReason::PlateLimits));
-        }
-        let plate = plate.plate();
+        let plate = Plate::try_from(plate)?;
         if self.plates.has_role(plate.role) {
             return Err(SheetFault::new(SheetReason::RoleStands));
         }
@@ -106,24 +101,11 @@ impl Sheet {
         ensures answer { Refuses (ledger self.old) (calls.lift slot) result }
         ensures slots { ledger self.new ≡ after (ledger self.old) (calls.lift slot) }
     {
-        if slot >= 24 {
-            return Err(SheetFault::new(SheetReason::NoSlot));
-        }
-        if !self.plates.is_full(slot) {
+        let slot = Slot::new(slot)?;
+        if self.plates.slots.get(slot).is_none() {
             return Err(SheetFault::new(SheetReason::SlotEmpty));
         }
         self.plates.take_out(slot);
-        Ok(())
-    }
-
-    fn try_lower(&mut self, n: u16) -> Result<(), SheetFault>
-        ensures answer { Answers (ledger self.old) (calls.lower n) result }
-        ensures slots { ledger self.new ≡ after (ledger self.old) (calls.lower n) }
-    {
-        if self.plates.would_pass(n) {
-            return Err(SheetFault::new(SheetReason::TooLow));
-        }
-        self.plates.lower(n);
         Ok(())
     }
 
@@ -131,10 +113,8 @@ impl Sheet {
         ensures answer { Refuses (ledger self.old) (calls.enter slot load (kind_of effect) (judged (value_of effect))) result }
         ensures slots { ledger self.new ≡ after (ledger self.old) (calls.enter slot load (kind_of effect) (judged (value_of effect))) }
     {
-        if slot >= 64 {
-            return Err(SheetFault::new(SheetReason::NoSlot));
-        }
-        if self.rows.is_full(slot) {
+        let slot = Slot::new(slot)?;
+        if self.rows.slots.get(slot).is_some() {
             return Err(SheetFault::new(SheetReason::SlotFull));
         }
         let sixteenths = effect.sixteenths()?;
@@ -153,10 +133,8 @@ impl Sheet {
         ensures answer { Refuses (ledger self.old) (calls.strike slot) result }
         ensures slots { ledger self.new ≡ after (ledger self.old) (calls.strike slot) }
     {
-        if slot >= 64 {
-            return Err(SheetFault::new(SheetReason::NoSlot));
-        }
-        if !self.rows.is_full(slot) {
+        let slot = Slot::new(slot)?;
+        if self.rows.slots.get(slot).is_none() {
             return Err(SheetFault::new(SheetReason::SlotEmpty));
         }
         self.rows.take_out(slot);

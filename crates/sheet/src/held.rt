@@ -8,7 +8,7 @@ use crate::rows::Rows;
 pub struct Sheet {
     pub(crate) plates: Plates,
     pub(crate) rows: Rows,
-    ghost light: { Light plates.slots },
-    ghost within: { Within plates.slots },
-    ghost once: { Once plates.slots },
+    ghost light: { Light plates.slots.items },
+    ghost within: { Within plates.slots.items },
+    ghost once: { Once plates.slots.items },
 }

@@ -6,12 +6,13 @@ mod held;
 mod measures;
 mod plate;
 mod plates;
-mod plates_forces;
 mod plates_part;
-mod plates_resultants;
 mod role_slots;
 mod row;
 mod rows;
+mod slot;
+mod slot_numbers;
+mod slots;
 mod telling;
 #[cfg(test)]
 mod tests;

@@ -3,12 +3,13 @@
 ghost use Rattle.std.specs.Prelude.{◌≡◌, Some};
 ghost use Rattle.sheet.specs.Plates as plates;
 
+use faults::{SheetFault, SheetReason};
 use section::{BROADEST, GREATEST_YIELD, LEAST_YIELD, LOWEST};
 
 // The greatest breadth of a web.
 const BROADEST_WEB: u16 = 64;
 
-#[derive(Clone, Copy)]
+#[derive(Clone, Copy, Debug, PartialEq, Eq)]
 pub enum Role {
     TopFlange,
     Web,
@@ -16,7 +17,7 @@ pub enum Role {
     Other,
 }
 
-#[derive(Clone, Copy)]
+#[derive(Clone, Copy, Debug, PartialEq, Eq)]
 pub struct Plate {
     pub role: Role,
     pub top: u16,
@@ -25,8 +26,9 @@ pub struct Plate {
     pub fy: u32,
 }
 
-// A plate as it is handed over: its role by number, and nothing judged yet.
-#[derive(Clone, Copy)]
+// A plate as it is handed over: its role by number, and nothing judged yet. A number that is no role's is refused as a measure outside its
+// limits is, and after the slot has been judged.
+#[derive(Clone, Copy, Debug, PartialEq, Eq)]
 pub struct PlateInput {
     pub role: u8,
     pub top: u16,
@@ -35,30 +37,42 @@ pub struct PlateInput {
     pub fy: u32,
 }
 
-impl Role {
-    pub fn number(self) -> u8
-        ensures { result ≡ plates.role_number self }
-    {
-        match self {
+impl From<Role> for u8 {
+    ghost from_gives = { λ role n. n ≡ plates.role_number role };
+
+    fn from(role: Role) -> u8 {
+        match role {
             Role::TopFlange => 1,
             Role::Web => 2,
             Role::BottomFlange => 3,
             Role::Other => 4,
         }
     }
+}
 
-    pub(crate) fn is(self, other: Role) -> bool
-        ensures { result ≡ plates.same_role self other }
-    {
-        self.number() == other.number()
+// Refused with 4 where the number is no role's.
+impl TryFrom<u8> for Role {
+    type Error = SheetFault;
+
+    ghost try_from_gives = { plates.ReadsRole };
+
+    fn try_from(number: u8) -> Result<Role, SheetFault> {
+        match number {
+            1 => Ok(Role::TopFlange),
+            2 => Ok(Role::Web),
+            3 => Ok(Role::BottomFlange),
+            4 => Ok(Role::Other),
+            _ => Err(SheetFault::new(SheetReason::PlateLimits)),
+        }
     }
+}
 
+impl Role {
     // Whether the two may not both stand.
     pub(crate) fn clashes(self, other: Role) -> bool
         ensures { result ≡ plates.clash self other }
     {
-        let number = self.number();
-        number < 4 && number == other.number()
+        self != Role::Other && self == other
     }
 }
 
@@ -67,33 +81,36 @@ impl PlateInput {
     pub fn is_lawful(&self) -> bool
         ensures { result ≡ plates.is_lawful self.now }
     {
-        let has_role = 1 <= self.role && self.role <= 4;
+        let has_role = Role::try_from(self.role).is_ok();
+        // comparisons: with ranges and `contains` the check of this test gave up at a limit
         let sized = 1 <= self.breadth
             && self.breadth <= BROADEST
             && 1 <= self.height
             && self.height <= LOWEST;
         let above_end = u32::from(self.top) + u32::from(self.height) <= u32::from(LOWEST);
         let yields = LEAST_YIELD <= self.fy && self.fy <= GREATEST_YIELD;
-        let slender = self.role != 2 || self.breadth <= BROADEST_WEB;
+        let slender = self.role != u8::from(Role::Web) || self.breadth <= BROADEST_WEB;
         has_role & sized & above_end & yields & slender
     }
+}
 
-    pub(crate) fn plate(&self) -> Plate
-        ensures { result ≡ plates.plate_of self.now }
-    {
-        let role = match self.role {
-            1 => Role::TopFlange,
-            2 => Role::Web,
-            3 => Role::BottomFlange,
-            _ => Role::Other,
-        };
-        Plate {
-            role,
-            top: self.top,
-            breadth: self.breadth,
-            height: self.height,
-            fy: self.fy,
+// Refused with 4 where the input is outside its limits.
+impl TryFrom<PlateInput> for Plate {
+    type Error = SheetFault;
+
+    ghost try_from_gives = { plates.ReadsPlate };
+
+    fn try_from(input: PlateInput) -> Result<Plate, SheetFault> {
+        if !input.is_lawful() {
+            return Err(SheetFault::new(SheetReason::PlateLimits));
         }
+        Ok(Plate {
+            role: Role::try_from(input.role)?,
+            top: input.top,
+            breadth: input.breadth,
+            height: input.height,
+            fy: input.fy,
+        })
     }
 }
 

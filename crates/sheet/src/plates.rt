@@ -1,128 +1,106 @@
 // The plate slots.
-ghost use Rattle.std.specs.Prelude.{◌≡◌, ◌%◌, ◌^◌, ◌<◌, ◌≤◌, false, length, Some, None, slice_set};
-ghost use Rattle.sheet.specs.Slots.{empties, full, content};
-ghost use Rattle.sheet.specs.RoleSlots.{slot_with, Noted};
+ghost use Rattle.std.specs.Prelude.{◌≡◌, ◌%◌, ◌^◌, ◌<◌, ◌≤◌, false, length, position, Some, None, slice_set};
+ghost use Rattle.sheet.specs.Slots.{empties};
+ghost use Rattle.sheet.specs.RoleSlots.{Noted};
 ghost use Rattle.sheet.specs.Measures.{Measured};
-ghost use Rattle.sheet.specs.Plates.{total_force, stands, standing, passes, lowered};
+ghost use Rattle.sheet.specs.Plates.{clash_in, total_force, stands, standing, passes, lowered};
 
 use crate::measures::Measures;
 use crate::plate::{Plate, Role};
 use crate::role_slots::RoleSlots;
+use crate::slot::Slot;
+use crate::slots::Slots;
 
-#[derive(Clone, Copy)]
+#[derive(Drop)]
 pub struct Plates {
-    pub(crate) slots: [Option<Plate>; 24],
-    // the sum of breadth × height × yield over the standing plates, modulo 2^64: no bound is asked of them here
+    pub(crate) slots: Slots<Plate, 24>,
+    // the sum of breadth × height × yield over the standing plates, kept so that placing has no loop; modulo 2^64: no bound is asked of them here
     total: u64,
     roles: RoleSlots,
     pub(crate) measures: Measures,
-    ghost long: { length slots ≡ 24 },
-    ghost totalled: { total ≡ total_force slots % 2 ^ 64 },
-    ghost placed: { Noted roles slots },
-    ghost measured: { Measured measures slots },
+    ghost totalled: { total ≡ total_force slots.items % 2 ^ 64 },
+    ghost placed: { Noted roles slots.items },
+    ghost measured: { Measured measures slots.items },
 }
 
 // The first slot whose plate a role may not join.
-fn first_slot(slots: &[Option<Plate>], role: Role) -> Option<u8>
-    requires { length slots.now ≤ 256 }
-    ensures { result ≡ slot_with role slots.now }
+fn first_slot(slots: &[Option<Plate>], role: Role) -> Option<usize>
+    ensures { result ≡ position (clash_in role) slots.now }
 {
-    for (slot, held) in slots.iter().enumerate() {
-        if let Some(plate) = held {
-            if role.clashes(plate.role) {
-                return Some(slot as u8);
-            }
-        }
-    }
-    None
+    slots
+        .iter()
+        .position(|slot| slot.is_some_and(|plate| role.clashes(plate.role)))
 }
 
 impl Plates {
     pub(crate) fn new() -> Plates
-        ensures { result.slots ≡ empties 24 }
+        ensures { result.slots.items ≡ empties 24 }
     {
         Plates {
-            slots: [None; 24],
+            slots: Slots::empty(),
             total: 0,
             roles: RoleSlots::new(),
             measures: Measures::new(),
         }
     }
 
-    pub(crate) fn get(&self, slot: u8) -> Option<Plate>
-        requires { slot < 24 }
-        ensures { result ≡ content self.now.slots slot }
-    {
-        self.slots[slot as usize]
-    }
-
-    pub(crate) fn is_full(&self, slot: u8) -> bool
-        requires { slot < 24 }
-        ensures { result ≡ full self.now.slots slot }
-    {
-        self.slots[slot as usize].is_some()
-    }
-
-    pub(crate) fn put(&mut self, slot: u8, plate: Plate)
-        requires { slot < 24 }
-        ensures { self.new.slots ≡ slice_set self.old.slots slot (Some plate) }
+    pub(crate) fn put(&mut self, slot: Slot<24>, plate: Plate)
+        ensures { self.new.slots.items ≡ slice_set self.old.slots.items slot.index (Some plate) }
     {
         self.take_out(slot);
         self.total = self.total.wrapping_add(plate.force());
-        let first = self.roles.first(plate.role, slot);
+        let first = self.roles.first(plate.role, slot.index);
         self.roles.note(plate.role, Some(first));
         self.measures.note(slot, &plate);
-        self.slots[slot as usize] = Some(plate);
+        self.slots.set(slot, Some(plate));
     }
 
-    pub(crate) fn take_out(&mut self, slot: u8)
-        requires { slot < 24 }
-        ensures { self.new.slots ≡ slice_set self.old.slots slot None }
+    pub(crate) fn take_out(&mut self, slot: Slot<24>)
+        ensures { self.new.slots.items ≡ slice_set self.old.slots.items slot.index None }
     {
-        if let Some(plate) = self.get(slot) {
+        if let Some(plate) = self.slots.get(slot) {
             self.total = self.total.wrapping_sub(plate.force());
             self.measures.clear(slot);
-            self.slots[slot as usize] = None;
-            let next = first_slot(&self.slots, plate.role);
+            self.slots.set(slot, None);
+            let next = first_slot(&self.slots.items, plate.role);
             self.roles.note(plate.role, next);
         }
     }
 
     // The sum of breadth × height × yield over the standing plates.
     pub(crate) fn total_force(&self) -> u64
-        requires { total_force self.now.slots ≤ 2 ^ 36 }
-        ensures { result ≡ total_force self.now.slots }
+        requires { total_force self.now.slots.items ≤ 2 ^ 36 }
+        ensures { result ≡ total_force self.now.slots.items }
     {
         self.total // whole, within the bound
     }
 
     // Whether a plate stands that the role may not join.
     pub(crate) fn has_role(&self, role: Role) -> bool
-        ensures { result ≡ stands role self.now.slots }
+        ensures { result ≡ stands role self.now.slots.items }
     {
         self.roles.get(role).is_some()
     }
 
     // The first standing plate of a role.
     pub(crate) fn with_role(&self, role: Role) -> Option<Plate>
-        ensures { result ≡ standing role self.now.slots }
+        ensures { result ≡ standing role self.now.slots.items }
     {
         if let Role::Other = role {
             return self.first_with(role);
         }
-        match self.roles.get(role) {
-            Some(slot) => self.get(slot),
-            None => None,
-        }
+        let slot = self.roles.get(role)?;
+        self.slots.items[slot]
     }
 
     // The same by trying the slots in turn.
     fn first_with(&self, role: Role) -> Option<Plate>
-        ensures { result ≡ standing role self.now.slots }
+        ensures { result ≡ standing role self.now.slots.items }
     {
-        for slot in &self.slots {
+        // a loop: the proof over `find_map` did not close
+        for slot in &self.slots.items {
             if let Some(plate) = slot {
-                if plate.role.is(role) {
+                if plate.role == role {
                     return Some(*plate);
                 }
             }
@@ -132,28 +110,25 @@ impl Plates {
 
     // Whether a standing plate would pass level 4,096, lowered by n.
     pub(crate) fn would_pass(&self, n: u16) -> bool
-        ensures { result ≡ passes n self.now.slots }
+        ensures { result ≡ passes n self.now.slots.items }
     {
-        for slot in &self.slots {
-            if let Some(plate) = slot {
-                if plate.would_pass(n) {
-                    return true;
-                }
-            }
-        }
-        false
+        self.slots
+            .items
+            .iter()
+            .any(|slot| slot.is_some_and(|plate| plate.would_pass(n)))
     }
 
     // Adds n to the top of every standing plate.
     pub(crate) fn lower(&mut self, n: u16)
-        requires { passes n self.old.slots ≡ false }
-        ensures { self.new.slots ≡ lowered n self.old.slots }
+        requires { passes n self.old.slots.items ≡ false }
+        ensures { self.new.slots.items ≡ lowered n self.old.slots.items }
     {
-        for slot in self.slots.iter_mut() {
+        self.measures.lower(n);
+        // slot by slot, since the proof speaks of the slot that each plate lies in
+        for slot in self.slots.items.iter_mut() {
             if let Some(plate) = slot {
                 plate.top += n;
             }
         }
-        self.measures.lower(n);
     }
 }

@@ -1,4 +1,4 @@
-// The slots in which the plates of roles 1, 2 and 3 stand.
+// The slots in which the plates of roles 1, 2 and 3 stand: kept beside the plates, so that placing one has no loop.
 ghost use Rattle.std.specs.Prelude.{◌≡◌, if◌then◌else◌, None};
 ghost use Rattle.sheet.specs.declared.plate.Role.{Role as Roles};
 ghost use Rattle.sheet.specs.Plates.{clash};
@@ -8,9 +8,9 @@ use crate::plate::Role;
 
 #[derive(Clone, Copy)]
 pub struct RoleSlots {
-    top_flange: Option<u8>,
-    web: Option<u8>,
-    bottom_flange: Option<u8>,
+    top_flange: Option<usize>,
+    web: Option<usize>,
+    bottom_flange: Option<usize>,
 }
 
 impl RoleSlots {
@@ -25,7 +25,7 @@ impl RoleSlots {
     }
 
     // The slot of a role; none for other plates, of which several may stand.
-    pub(crate) fn get(&self, role: Role) -> Option<u8>
+    pub(crate) fn get(&self, role: Role) -> Option<usize>
         ensures { result ≡ noted role self.now }
     {
         match role {
@@ -37,7 +37,7 @@ impl RoleSlots {
     }
 
     // The first slot of a role, were one of its plates in this slot too.
-    pub(crate) fn first(&self, role: Role, slot: u8) -> u8
+    pub(crate) fn first(&self, role: Role, slot: usize) -> usize
         ensures { result ≡ earlier slot (noted role self.now) }
     {
         match self.get(role) {
@@ -47,7 +47,7 @@ impl RoleSlots {
     }
 
     // Notes where the plate of a role stands, or that none does; other plates are not noted.
-    pub(crate) fn note(&mut self, role: Role, slot: Option<u8>)
+    pub(crate) fn note(&mut self, role: Role, slot: Option<usize>)
         ensures { (r : Roles) → noted r self.new ≡ (if clash role r then slot else noted r self.old) }
     {
         match role {

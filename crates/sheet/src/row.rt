@@ -4,7 +4,7 @@ ghost use Rattle.sheet.specs.Totals.{of_kind};
 
 use loads::{EffectKind, LoadType};
 
-#[derive(Clone, Copy)]
+#[derive(Clone, Copy, Debug, PartialEq, Eq)]
 pub struct Row {
     pub load: LoadType,
     pub kind: EffectKind,
@@ -18,8 +18,8 @@ impl Row {
         ensures value { result ≡ of_kind kind self.now }
         ensures bound { unsigned_abs result ≤ 2 ^ 31 }
     {
-        if self.kind.is(kind) {
-            self.sixteenths as i64
+        if self.kind == kind {
+            i64::from(self.sixteenths)
         } else {
             0
         }

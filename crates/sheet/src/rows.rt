@@ -3,75 +3,61 @@ ghost use Rattle.std.specs.Prelude.{◌≡◌, ◌^◌, ◌<◌, ◌≤◌, leng
 ghost use Rattle.loads.specs.declared.load_type.LoadType.{LoadType as LoadTypes};
 ghost use Rattle.loads.specs.declared.kind.EffectKind.TheVariants.{Moment, Shear};
 ghost use Rattle.loads.specs.Factors.{index};
-ghost use Rattle.sheet.specs.Slots.{empties, full, content};
+ghost use Rattle.sheet.specs.Slots.{empties};
 ghost use Rattle.sheet.specs.Totals.{type_sum, type_sums, Small};
 
 use crate::row::Row;
+use crate::slot::Slot;
+use crate::slots::Slots;
 use loads::EffectKind;
 
-#[derive(Clone, Copy)]
+#[derive(Drop)]
 pub struct Rows {
-    pub(crate) slots: [Option<Row>; 64],
-    // the sums of the standing rows of each kind, for each load type by its index
+    pub(crate) slots: Slots<Row, 64>,
+    // the sums of the standing rows of each kind, for each load type by its index; two fields, since a call asks for one kind's four
     moments: [i64; 4],
     shears: [i64; 4],
-    ghost long: { length slots ≡ 64 },
-    ghost small: { Small slots },
-    ghost moments_summed: { moments ≡ type_sums Moment slots },
-    ghost shears_summed: { shears ≡ type_sums Shear slots },
+    ghost small: { Small slots.items },
+    ghost moments_summed: { moments ≡ type_sums Moment slots.items },
+    ghost shears_summed: { shears ≡ type_sums Shear slots.items },
 }
 
 impl Rows {
     pub(crate) fn new() -> Rows
-        ensures { result.slots ≡ empties 64 }
+        ensures { result.slots.items ≡ empties 64 }
     {
         Rows {
-            slots: [None; 64],
+            slots: Slots::empty(),
             moments: [0; 4],
             shears: [0; 4],
         }
     }
 
-    pub(crate) fn get(&self, slot: u8) -> Option<Row>
-        requires { slot < 64 }
-        ensures { result ≡ content self.now.slots slot }
-    {
-        self.slots[slot as usize]
-    }
-
-    pub(crate) fn is_full(&self, slot: u8) -> bool
-        requires { slot < 64 }
-        ensures { result ≡ full self.now.slots slot }
-    {
-        self.slots[slot as usize].is_some()
-    }
-
-    pub(crate) fn put(&mut self, slot: u8, row: Row)
-        requires { slot < 64 }
-        ensures { self.new.slots ≡ slice_set self.old.slots slot (Some row) }
+    pub(crate) fn put(&mut self, slot: Slot<64>, row: Row)
+        ensures { self.new.slots.items ≡ slice_set self.old.slots.items slot.index (Some row) }
     {
         self.take_out(slot);
-        let load = row.load.index();
+        let load = usize::from(row.load);
         self.moments[load] += row.of_kind(EffectKind::Moment);
         self.shears[load] += row.of_kind(EffectKind::Shear);
-        self.slots[slot as usize] = Some(row);
+        self.slots.set(slot, Some(row));
     }
 
-    pub(crate) fn take_out(&mut self, slot: u8)
-        requires { slot < 64 }
-        ensures { self.new.slots ≡ slice_set self.old.slots slot None }
+    pub(crate) fn take_out(&mut self, slot: Slot<64>)
+        ensures { self.new.slots.items ≡ slice_set self.old.slots.items slot.index None }
     {
-        if let Some(row) = self.get(slot) {
-            let load = row.load.index();
+        if let Some(row) = self.slots.get(slot) {
+            let load = usize::from(row.load);
             self.moments[load] -= row.of_kind(EffectKind::Moment);
             self.shears[load] -= row.of_kind(EffectKind::Shear);
-            self.slots[slot as usize] = None;
+            self.slots.set(slot, None);
         }
     }
 
-    // The sums of the standing rows of one kind, for each load type by its index.
+    // The sums of the standing rows of one kind, for each load type by its index. The bound is told
+    // beside them: a struct of the four, for it to stand in, would only wrap the array.
     pub(crate) fn type_sums(&self, kind: EffectKind) -> [i64; 4]
-        ensures value { (t : LoadTypes) → slice_index_or result (index t) (pos 0) ≡ type_sum t kind self.now.slots }
+        ensures value { (t : LoadTypes) → slice_index_or result (index t) (pos 0) ≡ type_sum t kind self.now.slots.items }
         ensures bound { (t : LoadTypes) → unsigned_abs (slice_index_or result (index t) (pos 0)) ≤ 2 ^ 37 }
     {
         match kind {

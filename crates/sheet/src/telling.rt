@@ -9,7 +9,8 @@ ghost use Rattle.sheet.specs.Ledger.{ledger, Shows};
 use crate::held::Sheet;
 use crate::plate::{Plate, Role};
 use crate::row::Row;
-use faults::{SheetFault, SheetReason};
+use crate::slot::Slot;
+use faults::SheetFault;
 use loads::EffectKind;
 
 impl Sheet {
@@ -17,10 +18,7 @@ impl Sheet {
     pub fn plate(&self, slot: u8) -> Result<Option<Plate>, SheetFault>
         ensures { Shows 24 (ledger self.now).plates slot result }
     {
-        if slot >= 24 {
-            return Err(SheetFault::new(SheetReason::NoSlot).at_slot(slot));
-        }
-        Ok(self.plates.get(slot))
+        Ok(self.plates.slots.get(Slot::new(slot)?))
     }
 
     // The standing plate of a role, of several the one in the first slot.
@@ -34,13 +32,11 @@ impl Sheet {
     pub fn row(&self, slot: u8) -> Result<Option<Row>, SheetFault>
         ensures { Shows 64 (ledger self.now).rows slot result }
     {
-        if slot >= 64 {
-            return Err(SheetFault::new(SheetReason::NoSlot).at_slot(slot));
-        }
-        Ok(self.rows.get(slot))
+        Ok(self.rows.slots.get(Slot::new(slot)?))
     }
 
-    // The sums of the standing rows of one kind in sixteenths, for each load type by its index.
+    // The sums of the standing rows of one kind in sixteenths, for each load type by its index. The bound is told
+    // beside them: a struct of the four, for it to stand in, would only wrap the array.
     pub fn type_sums(&self, kind: EffectKind) -> [i64; 4]
         ensures value { (t : LoadTypes) → slice_index_or result (index t) (pos 0) ≡ type_sum t kind (ledger self.now).rows }
         ensures bound { (t : LoadTypes) → unsigned_abs (slice_index_or result (index t) (pos 0)) ≤ 2 ^ 37 }

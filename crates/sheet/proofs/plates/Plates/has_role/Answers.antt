@@ -7,4 +7,4 @@ pub returns : goal.returns
 returns c =
     let s = c.args.self.now in
     let role = c.args.role in
-    c.is_some.ensures ∙ ap is_some (c.get.ensures ∙ read_note s.roles s.slots s.placed role) ∙ sym (stands-slot role s.slots)
+    c.is_some.ensures ∙ ap is_some (c.get.ensures ∙ read_note s.roles s.slots.items s.placed role) ∙ sym (stands-slot role s.slots.items)

@@ -11,35 +11,33 @@ use Rattle.sheet.proofs.plates.Plates.lower.Goals.{in-Some, in_default}
 
 pub invariant_of-self : goal.invariant_of-self
 invariant_of-self c =
-    let slots = c.args.self.now.slots in
+    let slots = c.args.self.now.slots.items in
     let f = lowered_in c.args.n in
-    let long = c.args.self.now.long in
-    let all = over_all f slots c.loop-slot.slot-items c.loop-slot.slot-index c.loop-slot.invariant (omega (arith, long)) in
+    let long = c.args.self.now.slots.long in
     let m = c.args.self.now.measures in
-    record {
-      long = ap length all ∙ length-map slots f ∙ long;
-      totalled = c.args.self.now.totalled ∙ sym (ap (λ (n : ℕ). n % 2 ^ 64) (ap total_force all ∙ total_force_kept c.args.n slots));
-      placed = make_note c.args.self.now.roles c.loop-slot.slot-items (λ r. read_note c.args.self.now.roles slots c.args.self.now.placed r ∙ sym (ap (slot_with r) all ∙ slot-lowered c.args.n r slots));
-      measured = fits_same _ _ _ _ _ _ _ _ all c.lower.ensures.tops c.lower.ensures.heights c.lower.ensures.strengths (fits_lower c.args.n slots m.tops m.heights m.strengths (omega (arith, long, m.topped)) c.requires c.args.self.now.measured);
-    }
+    let all = over_all f slots c.loop-slot.slot-items c.loop-slot.slot-index c.loop-slot.invariant (omega (arith, long)) in
+    let totalled = c.args.self.now.totalled ∙ sym (ap (λ (n : ℕ). n % 2 ^ 64) (ap total_force all ∙ total_force_kept c.args.n slots)) in
+    let placed = make_note c.args.self.now.roles c.loop-slot.slot-items (λ r. read_note c.args.self.now.roles slots c.args.self.now.placed r ∙ sym (ap (slot_with r) all ∙ slot-lowered c.args.n r slots)) in
+    let measured = fits_same _ _ _ _ _ _ _ _ all c.lower.ensures.tops c.lower.ensures.heights c.lower.ensures.strengths (fits_lower c.args.n slots m.tops m.heights m.strengths (omega (arith, long, m.topped)) c.requires c.args.self.now.measured) in
+    ((ap length all ∙ length-map slots f ∙ long, tt), (totalled, (placed, (measured, tt))))
 
 pub overflow_add-plate : goal.overflow_add-plate
 overflow_add-plate c =
-    let slots = c.args.self.now.slots in
+    let slots = c.args.self.now.slots.items in
     let n = c.args.n in
     let i = c.loop-slot.slot-index in
-    let h : i < length slots = omega (arith, c.args.self.now.long) in
+    let h : i < length slots = omega (arith, c.args.self.now.slots.long) in
     let here = sym (over_here (lowered_in n) slots c.loop-slot.slot-items i c.loop-slot.invariant None h) ∙ c.in-Some.is in
     let low = sym (ap (passes_in n) here) ∙ some_none (passes_in n) slots i None h c.requires in
     omega (arith, ltb-false _ _ low)
 
 pub loop-slot-preserved : goal.loop-slot-preserved
 loop-slot-preserved c =
-    let slots = c.args.self.now.slots in
+    let slots = c.args.self.now.slots.items in
     let f = lowered_in c.args.n in
     let i = c.loop-slot.slot-index in
     let now' = c.loop-slot.slot-items in
-    let h : i < length slots = omega (arith, c.args.self.now.long) in
+    let h : i < length slots = omega (arith, c.args.self.now.slots.long) in
     elim c.match-slot.branch [
       | in-Some w ↦ w.slot-items-is ∙ over_step f slots now' i c.loop-slot.invariant None (Some w.in-Some.plate) h w.in-Some.is
       | in_default w ↦ rw w.in_default.is at w.slot-items-is ∙ over_step f slots now' i c.loop-slot.invariant None None h w.in_default.is
@@ -47,4 +45,4 @@ loop-slot-preserved c =
 
 pub returns : goal.returns
 returns c =
-    over_all (lowered_in c.args.n) c.args.self.now.slots c.loop-slot.slot-items c.loop-slot.slot-index c.loop-slot.invariant (omega (arith, c.args.self.now.long))
+    over_all (lowered_in c.args.n) c.args.self.now.slots.items c.loop-slot.slot-items c.loop-slot.slot-index c.loop-slot.invariant (omega (arith, c.args.self.now.slots.long))

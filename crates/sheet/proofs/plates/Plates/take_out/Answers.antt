@@ -1,36 +1,36 @@
 -- `sheet::plates::Plates::take_out` meets its contract.
-use Rattle.std.proofs.Common.{◌<◌, cond, length, set, None, sym, refl, ap, ◌∙◌, arith, length-set, Option, ℕ}
+use Rattle.std.proofs.Common.{◌<◌, cond, length, set, position, None, sym, ap, ◌∙◌, subst, arith, Option, ℕ}
 use Rattle.std.proofs.lemmas.List.{set-get_or}
 use Rattle.std.proofs.lemmas.List.Sums.{sum_by-set}
-use Rattle.sheet.specs.Plates.{force_in, clash}
-use Rattle.sheet.specs.RoleSlots.{noted, slot_with}
+use Rattle.sheet.specs.Plates.{force_in, total_force, clash, clash_in}
+use Rattle.sheet.specs.RoleSlots.{noted, slot_with, Noted}
 use Rattle.sheet.proofs.TotalKept.{total_less}
 use Rattle.sheet.proofs.MeasuresKept.{fits_same, fits_out}
-use Rattle.sheet.proofs.RolePlaces.{read_note, make_note, slot_out}
+use Rattle.sheet.proofs.RolePlaces.{read_note, make_note, slot_out, position-slot}
 use Rattle.sheet.proofs.plates.Plates.take_out.Goals as goal
 
-pub invariant_of-self : goal.invariant_of-self
-invariant_of-self c =
+pub invariant_of-self-in-Some : goal.invariant_of-self-in-Some
+invariant_of-self-in-Some c =
     let s = c.args.self.now in
     let p = c.in-Some.plate in
-    let xs = s.slots in
-    let slot = c.args.slot in
-    let h : slot < length xs = omega (arith, s.long) in
+    let xs = s.slots.items in
+    let slot = c.args.slot.index in
+    let h : slot < length xs = omega (arith, s.slots.long) in
     let is = sym c.get.ensures ∙ c.in-Some.is in
     let m = s.measures in
     record {
-      long = length-set xs slot None ∙ s.long;
-      totalled = total_less s.total _ _ c.force.result (omega arith) s.totalled (omega (arith, c.force.ensures, sum_by-set force_in xs slot None None h, ap force_in is));
+      totalled = total_less s.total _ _ c.force.result (omega arith) s.totalled (omega (arith, c.force.ensures, sum_by-set force_in xs slot None None h, ap force_in is, ap total_force c.set.ensures));
       placed =
-          make_note _ (set xs slot None)
+          subst (Noted c.note.new.self) (sym c.set.ensures)
+          (make_note _ (set xs slot None)
           (λ r. c.note.ensures r
-          ∙ ap (λ (o : Option ℕ). cond (clash p.role r) o (noted r s.roles)) c.first_slot-next.ensures
+          ∙ ap (λ (o : Option ℕ). cond (clash p.role r) o (noted r s.roles)) (c.first_slot-next.ensures ∙ ap (position (clash_in p.role)) c.set.ensures ∙ position-slot p.role (set xs slot None))
           ∙ ap (cond (clash p.role r) (slot_with p.role (set xs slot None))) (read_note s.roles xs s.placed r)
-          ∙ slot_out xs slot p is r);
-      measured = fits_same _ _ _ _ _ _ _ _ refl c.clear.ensures.tops c.clear.ensures.heights c.clear.ensures.strengths (fits_out xs m.tops m.heights m.strengths slot h (omega (arith, m.sized)) s.measured);
+          ∙ slot_out xs slot p is r));
+      measured = fits_same _ _ _ _ _ _ _ _ c.set.ensures c.clear.ensures.tops c.clear.ensures.heights c.clear.ensures.strengths (fits_out xs m.tops m.heights m.strengths slot h (omega (arith, m.sized, c.args.slot.inside)) s.measured);
     }
 
 pub returns-in_default : goal.returns-in_default
 returns-in_default c =
-    let xs = c.args.self.now.slots in
-    sym (set-get_or xs c.args.slot None) ∙ ap (set xs c.args.slot) (sym c.get.ensures ∙ c.in_default.is)
+    let xs = c.args.self.now.slots.items in
+    sym (set-get_or xs c.args.slot.index None) ∙ ap (set xs c.args.slot.index) (sym c.get.ensures ∙ c.in_default.is)

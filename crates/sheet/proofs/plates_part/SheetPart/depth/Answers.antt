@@ -1,28 +1,28 @@
--- `sheet::plates::Plates::depth` meets its contract.
+-- `sheet::plates_part::SheetPart::depth` meets its contract.
 use Rattle.std.proofs.Common.{◌≡◌, ◌+◌, ◌<◌, ◌≤◌, max, length, take, sym, subst, arith}
 use Rattle.std.proofs.lemmas.List.{take_all}
 use Rattle.section.specs.Parts.{IsDepth}
 use Rattle.section.proofs.Together.{depth_none}
 use Rattle.sheet.specs.PlateStrips.{plate_strips}
 use Rattle.sheet.proofs.PlateSums.{plate_kept, block_strips, next_none, depth_next}
-use Rattle.sheet.proofs.plates.Plates.depth.Goals as goal
-use Rattle.sheet.proofs.plates.Plates.depth.Goals.{in-Some, in_default}
+use Rattle.sheet.proofs.plates_part.SheetPart.depth.Goals as goal
+use Rattle.sheet.proofs.plates_part.SheetPart.depth.Goals.{in-Some, in_default}
 
 pub loop-slot-init : goal.loop-slot-init
 loop-slot-init c = depth_none
 
 pub block-requires : goal.block-requires
 block-requires c =
-    let xs = c.args.self.now.slots in
-    let h : c.loop-slot.slot-index < length xs = omega (arith, c.args.self.now.long) in
-    let k = plate_kept xs c.requires.light c.requires.inside c.loop-slot.slot-index c.in-Some.plate h c.in-Some.is in
+    let xs = c.args.self.now.plates.slots.items in
+    let h : c.loop-slot.slot-index < length xs = omega (arith, c.args.self.now.plates.slots.long) in
+    let k = plate_kept xs c.args.self.now.light c.args.self.now.within c.loop-slot.slot-index c.in-Some.plate h c.in-Some.is in
     record { inside = k.0; light = k.1 }
 
 pub loop-slot-preserved : goal.loop-slot-preserved
 loop-slot-preserved c =
-    let xs = c.args.self.now.slots in
+    let xs = c.args.self.now.plates.slots.items in
     let i = c.loop-slot.slot-index in
-    let h : i < length xs = omega (arith, c.args.self.now.long) in
+    let h : i < length xs = omega (arith, c.args.self.now.plates.slots.long) in
     elim c.match-slot.branch [
       | in-Some w ↦
           subst (IsDepth (plate_strips (take (i + 1) xs)) (plate_strips (take (i + 1) xs))) (let deeper : max w.depth.result c.loop-slot.deepest ≡ c.match-slot.deepest = omega arith in deeper)
@@ -34,6 +34,6 @@ loop-slot-preserved c =
 
 pub returns : goal.returns
 returns c =
-    let xs = c.args.self.now.slots in
-    let all : length xs ≤ c.loop-slot.slot-index = omega (arith, c.args.self.now.long) in
+    let xs = c.args.self.now.plates.slots.items in
+    let all : length xs ≤ c.loop-slot.slot-index = omega (arith, c.args.self.now.plates.slots.long) in
     subst (λ ys. IsDepth (plate_strips ys) (plate_strips ys) c.loop-slot.deepest) (take_all c.loop-slot.slot-index xs all) c.loop-slot.invariant
