@@ -95,7 +95,7 @@ plates_depth (Some p ∷ xs) i =
 
 -- the axis, by the resultants at its level and at its neighbours
 pub axis_at : (s : Sense) (p q : ℕ → ℕ) (k : ℕ) (b t a : Resultants) → k < 4096 → IsResultants s p q (k - 1) b → IsResultants s p q k t → IsResultants s p q (suc k) a →
-    t.below + a.below ≤ t.above + a.above → (0 < k → b.above + t.above < b.below + t.below) → IsAxis s p q (k, t.moment, (t.above - t.below) + (t.below - t.above))
+    t.below + a.below ≤ t.above + a.above → (0 < k → b.above + t.above < b.below + t.below) → IsAxis s p q (record { level = k; moment = t.moment; imbalance = (t.above - t.below) + (t.below - t.above) })
 unfolding imbalance_at
 axis_at s p q k b t a l hb ht ha rise fall =
     let ta = ht.above_is in

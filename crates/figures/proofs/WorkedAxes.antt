@@ -42,7 +42,7 @@ cracked =
 thin_inside : Inside thin_plate.plates
 thin_inside = ((lit≤ tt, lit< tt), tt)
 
-thin_alone : IsAxis Sagging (with_plates thin_plate no_strips) (with_plates thin_plate no_strips) (0, 800000, 800000)
+thin_alone : IsAxis Sagging (with_plates thin_plate no_strips) (with_plates thin_plate no_strips) (record { level = 0; moment = 800000; imbalance = 800000 })
 thin_alone =
     axis_at Sagging (with_plates thin_plate no_strips) (with_plates thin_plate no_strips) 0 _ _ _ (lit< tt) (alone_is thin_plate Sagging thin_inside 0 (lit≤ tt)) (alone_is thin_plate Sagging thin_inside 0 (lit≤ tt)) (alone_is thin_plate Sagging thin_inside 1 (lit≤ tt)) (lit≤ tt) (λ h. absurd (not-suc-le-zero h))
 
@@ -50,5 +50,5 @@ thin_alone =
 no_table : (top yield : ℕ) → no_strips ≡ table_strip top yield []
 no_table top yield = fun_ext (λ i. sym (strip_none top yield [] i refl))
 
-pub thin : (top yield : ℕ) → IsAxis Sagging (with_plates thin_plate (table_strip top yield [])) (with_plates thin_plate (table_strip top yield [])) (0, 800000, 800000)
-thin top yield = subst (λ (f : ℕ → ℕ). IsAxis Sagging (with_plates thin_plate f) (with_plates thin_plate f) (0, 800000, 800000)) (no_table top yield) thin_alone
+pub thin : (top yield : ℕ) → IsAxis Sagging (with_plates thin_plate (table_strip top yield [])) (with_plates thin_plate (table_strip top yield [])) (record { level = 0; moment = 800000; imbalance = 800000 })
+thin top yield = subst (λ (f : ℕ → ℕ). IsAxis Sagging (with_plates thin_plate f) (with_plates thin_plate f) (record { level = 0; moment = 800000; imbalance = 800000 })) (no_table top yield) thin_alone

@@ -10,11 +10,11 @@ use Rattle.figures.specs.Girders.{girder, deck_pushes, deck_pulls}
 
 -- the girder with its deck, in sagging
 abbrev pub Composite : Type 0
-Composite = IsAxis Sagging (with_plates girder deck_pushes) (with_plates girder deck_pulls) (131, 670355404800, 9267200)
+Composite = IsAxis Sagging (with_plates girder deck_pushes) (with_plates girder deck_pulls) (record { level = 131; moment = 670355404800; imbalance = 9267200 })
 
 -- the girder with its deck cracked, in hogging
 abbrev pub Cracked : Type 0
-Cracked = IsAxis Hogging (with_plates girder deck_pulls) (with_plates girder deck_pulls) (656, 357171200000, 0)
+Cracked = IsAxis Hogging (with_plates girder deck_pulls) (with_plates girder deck_pulls) (record { level = 656; moment = 357171200000; imbalance = 0 })
 
 -- a plate of one strip at the top of a new sheet
 abbrev pub thin : PlateInput
@@ -26,4 +26,4 @@ thin_plate = after blank (place 0 thin)
 -- with a shape of no breadths, whatever its top and its yield: the levels 0 and 1 are alike, and 0 is the first
 abbrev pub ThinPlate : Type 0
 ThinPlate = Accepted blank (place 0 thin)
-    × ((top yield : ℕ) → IsAxis Sagging (with_plates thin_plate (table_strip top yield [])) (with_plates thin_plate (table_strip top yield [])) (0, 800000, 800000))
+    × ((top yield : ℕ) → IsAxis Sagging (with_plates thin_plate (table_strip top yield [])) (with_plates thin_plate (table_strip top yield [])) (record { level = 0; moment = 800000; imbalance = 800000 }))

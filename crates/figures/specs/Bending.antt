@@ -11,7 +11,7 @@ use Rattle.sheet.specs.PlateStrips.{plate_strips}
 use Rattle.questions.specs.declared.answers.Resistance.{Resistance}
 use Rattle.questions.specs.declared.answers.Verdict.{Verdict}
 use Rattle.questions.specs.declared.answers.Verdict.TheVariants.{Carries, TooWeak}
-use Rattle.questions.specs.Extremes.{Extremes}
+use Rattle.questions.specs.Extremes.{IsExtremes}
 use Rattle.questions.specs.Bending.{plastic_moment, nominal_moment, IsResistance, Judges, IsBending}
 use Rattle.figures.specs.LoadEffects.{with_moment}
 use Rattle.figures.specs.Girders.{girder, deck_pushes, deck_pulls}
@@ -32,7 +32,7 @@ Resists = IsResistance girder deck_pushes deck_pulls resistance
 
 -- the verdict wherever this is the greatest factored moment, in hundredths of a sixteenth of a kip-foot
 abbrev pub VerdictAt : ℕ → Verdict → Type 0
-VerdictAt high verdict = (factors : List (ℕ × ℕ)) (rows : List (Option Row)) (low : ℤ) → Extremes factors Moment rows low (pos high) → Judges factors rows resistance verdict
+VerdictAt high verdict = (factors : List (ℕ × ℕ)) (rows : List (Option Row)) (low : ℤ) → IsExtremes factors Moment rows (record { low = low; high = pos high }) → Judges factors rows resistance verdict
 
 -- the greatest that it carries, and the next
 abbrev pub Carried : Type 0

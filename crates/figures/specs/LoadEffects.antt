@@ -7,7 +7,7 @@ use Rattle.loads.specs.declared.kind.EffectKind.TheVariants.{Moment}
 use Rattle.loads.specs.Values.{judged}
 use Rattle.loads.specs.Factors.{strength_i}
 use Rattle.sheet.specs.Ledger.{Ledger, blank, enter, after}
-use Rattle.questions.specs.Extremes.{Choice, Chosen, factored, Extremes}
+use Rattle.questions.specs.Extremes.{Choice, Chosen, factored, IsExtremes}
 
 -- a moment in kip-feet, entered into a slot
 abbrev pub with_moment : Ledger → ℕ → LoadType → Float → Ledger
@@ -20,7 +20,7 @@ dead_and_live =
 
 -- in Strength I their factored sums go from 1,648,000 to 6,680,000
 abbrev pub DeadAndLive : Type 0
-DeadAndLive = Extremes strength_i Moment dead_and_live.rows (pos 1648000) (pos 6680000)
+DeadAndLive = IsExtremes strength_i Moment dead_and_live.rows (record { low = pos 1648000; high = pos 6680000 })
 
 -- DC 100 and -160 kip-feet: 25 * 2 ^ 2 and -5 * 2 ^ 5
 abbrev pub opposed : Ledger
@@ -28,7 +28,7 @@ opposed = with_moment (with_moment blank 0 Dc (fin false 25 (pos 2))) 1 Dc (fin 
 
 -- in Strength I their factored sums go from -120,000 to -86,400
 abbrev pub Opposed : Type 0
-Opposed = Extremes strength_i Moment opposed.rows (neg_ℤ (pos 120000)) (neg_ℤ (pos 86400))
+Opposed = IsExtremes strength_i Moment opposed.rows (record { low = neg_ℤ (pos 120000); high = neg_ℤ (pos 86400) })
 
 -- and no choice gives the -30,400 that a factor for each row would
 abbrev pub OneFactorAType : Type 0

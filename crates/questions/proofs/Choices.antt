@@ -10,7 +10,8 @@ use Rattle.loads.specs.Factors.{index, range, Lawful}
 use Rattle.loads.specs.Kinds.{same_kind}
 use Rattle.sheet.specs.declared.row.Row.{Row}
 use Rattle.sheet.specs.Totals.{adds, type_sum}
-use Rattle.questions.specs.Extremes.{Choice, Chosen, times, factored_slot, factored, Extremes}
+use Rattle.questions.specs.declared.answers.Extremes.{Extremes}
+use Rattle.questions.specs.Extremes.{Choice, Chosen, times, factored_slot, factored, IsExtremes}
 use Rattle.questions.specs.Products.{least, greatest}
 use Rattle.questions.proofs.Products.{least_below, greatest_above, low_factor, high_factor, low_factor_meets, high_factor_meets, low-factor-within, high-factor-within}
 
@@ -58,7 +59,7 @@ by_types c k (o ∷ rows) =
 
 -- the extremes are the four types' least and greatest products added
 pub extremes_are : (fs : List (ℕ × ℕ)) (k : EffectKind) (rows : List (Option Row)) → Lawful fs →
-    Extremes fs k rows (four (λ t. least (range fs t) (type_sum t k rows))) (four (λ t. greatest (range fs t) (type_sum t k rows)))
+    IsExtremes fs k rows (record { low = four (λ t. least (range fs t) (type_sum t k rows)); high = four (λ t. greatest (range fs t) (type_sum t k rows)) })
 extremes_are fs k rows lawful = record {
   between = λ c chosen. (
     subst (λ (z : ℤ). four (λ t. least (range fs t) (type_sum t k rows)) ≤ℤ z) (sym (by_types c k rows)) (four_le _ _ (λ t. least_below (range fs t) (type_sum t k rows) (c t) (chosen t).0 (chosen t).1)),
@@ -76,35 +77,29 @@ extremes_are fs k rows lawful = record {
   );
 }
 
-pub extremes_from : (fs : List (ℕ × ℕ)) (k : EffectKind) (rows : List (Option Row)) (low high : ℤ) → Lawful fs →
-    low ≡ four (λ t. least (range fs t) (type_sum t k rows)) → high ≡ four (λ t. greatest (range fs t) (type_sum t k rows)) → Extremes fs k rows low high
-extremes_from fs k rows low high lawful p q = rw (p, q) (extremes_are fs k rows lawful)
+pub extremes_from : (fs : List (ℕ × ℕ)) (k : EffectKind) (rows : List (Option Row)) (e : Extremes) → Lawful fs →
+    e.low ≡ four (λ t. least (range fs t) (type_sum t k rows)) → e.high ≡ four (λ t. greatest (range fs t) (type_sum t k rows)) → IsExtremes fs k rows e
+extremes_from fs k rows e lawful p q = subst (IsExtremes fs k rows) (λ i. record { low = sym p i; high = sym q i }) (extremes_are fs k rows lawful)
 
 -- the greatest sum stands for all: where it does not exceed a bound, no choice's sum does
-pub none_above : (fs : List (ℕ × ℕ)) (k : EffectKind) (rows : List (Option Row)) (low high : ℤ) (m n : ℕ) → Extremes fs k rows low high → lt_z (pos m) (times n high) ≡ false →
+pub none_above : (fs : List (ℕ × ℕ)) (k : EffectKind) (rows : List (Option Row)) (e : Extremes) (m n : ℕ) → IsExtremes fs k rows e → lt_z (pos m) (times n e.high) ≡ false →
     (choice : Choice) → Chosen fs choice → pos m <ℤ times n (factored choice k rows) → ⊥
-none_above fs k rows low high m n e below choice chosen x =
-    let b = (e.between choice chosen).1 in
-    omega (arith, ints, times_le n (factored choice k rows) high b)
+none_above fs k rows e m n is below choice chosen x =
+    let b = (is.between choice chosen).1 in
+    omega (arith, ints, times_le n (factored choice k rows) e.high b)
 
--- in magnitude: every sum is at most the larger of the two extremes, and some sum is as large
-module _ (fs : List (ℕ × ℕ)) (k : EffectKind) (rows : List (Option Row)) (low high : ℤ) (e : Extremes fs k rows low high) where
-  within : (choice : Choice) → Chosen fs choice → nat_abs (factored choice k rows) ≤ max (nat_abs low) (nat_abs high)
-  within choice chosen = let b = e.between choice chosen in let l = b.0 in let h = b.1 in omega (arith, ints)
-
-  pub none_larger : (m : ℕ) → max (nat_abs low) (nat_abs high) * 16000 ≤ m → (choice : Choice) → Chosen fs choice → m < nat_abs (factored choice k rows) * 16000 → ⊥
-  none_larger m bound choice chosen x = let w = within choice chosen in omega arith
-
-  pub some_larger : (m : ℕ) → m < max (nat_abs low) (nat_abs high) * 16000 → (choice : Choice) × Chosen fs choice × (m < nat_abs (factored choice k rows) * 16000)
-  some_larger m x = go (cases_lt (nat_abs low) (nat_abs high))
+-- in magnitude: some sum is as large as the larger of the two extremes
+module _ (fs : List (ℕ × ℕ)) (k : EffectKind) (rows : List (Option Row)) (e : Extremes) (is : IsExtremes fs k rows e) where
+  pub some_larger : (m : ℕ) → m < max (nat_abs e.low) (nat_abs e.high) * 16000 → (choice : Choice) × Chosen fs choice × (m < nat_abs (factored choice k rows) * 16000)
+  some_larger m x = go (cases_lt (nat_abs e.low) (nat_abs e.high))
     where
-      go : (nat_abs low < nat_abs high) ⊎ (nat_abs high ≤ nat_abs low) → (choice : Choice) × Chosen fs choice × (m < nat_abs (factored choice k rows) * 16000)
-      go (inl h) = let f = e.high_met in (f.0, f.1, subst (λ (z : ℤ). m < nat_abs z * 16000) (sym f.2) (let g : m < nat_abs high * 16000 = omega arith in g))
-      go (inr h) = let f = e.low_met in (f.0, f.1, subst (λ (z : ℤ). m < nat_abs z * 16000) (sym f.2) (let g : m < nat_abs low * 16000 = omega arith in g))
+      go : (nat_abs e.low < nat_abs e.high) ⊎ (nat_abs e.high ≤ nat_abs e.low) → (choice : Choice) × Chosen fs choice × (m < nat_abs (factored choice k rows) * 16000)
+      go (inl h) = let f = is.high_met in (f.0, f.1, subst (λ (z : ℤ). m < nat_abs z * 16000) (sym f.2) (let g : m < nat_abs e.high * 16000 = omega arith in g))
+      go (inr h) = let f = is.low_met in (f.0, f.1, subst (λ (z : ℤ). m < nat_abs z * 16000) (sym f.2) (let g : m < nat_abs e.low * 16000 = omega arith in g))
 
--- the extremes are one pair of numbers
-pub extremes_only : (fs : List (ℕ × ℕ)) (k : EffectKind) (rows : List (Option Row)) (low high l h : ℤ) → Extremes fs k rows low high → Extremes fs k rows l h → (l ≡ low) × (h ≡ high)
-extremes_only fs k rows low high l h x y =
+-- the extremes are the only ones
+pub extremes_only : (fs : List (ℕ × ℕ)) (k : EffectKind) (rows : List (Option Row)) (e f : Extremes) → IsExtremes fs k rows e → IsExtremes fs k rows f → f ≡ e
+extremes_only fs k rows e f x y =
     let a = x.low_met in
     let b = y.low_met in
     let c = x.high_met in
@@ -113,4 +108,6 @@ extremes_only fs k rows low high l h x y =
     let q = (y.between a.0 a.1).0 in
     let r = (x.between d.0 d.1).1 in
     let s = (y.between c.0 c.1).1 in
-    (omega (arith, ints, b.2, a.2), omega (arith, ints, d.2, c.2))
+    let low : f.low ≡ e.low = omega (arith, ints, b.2, a.2) in
+    let high : f.high ≡ e.high = omega (arith, ints, d.2, c.2) in
+    λ i. record { low = low i; high = high i }

@@ -1,6 +1,6 @@
 -- How large a section's moment can be, and that one with a moment has a depth.
-use Rattle.std.proofs.Common.{◌≡◌, ℕ, zero, suc, ◌*◌, ◌/◌, ◌^◌, ◌<◌, ◌≤◌, max, sym, subst, mul-le-mul_left, arith}
-use native.Mathlib.Nat.{div-le_of_le-mul}
+use Rattle.std.proofs.Common.{ℕ, zero, suc, ◌*◌, ◌/◌, ◌^◌, ◌<◌, ◌≤◌, max, sym, subst, arith}
+use Rattle.section.specs.declared.axis.Axis.{Axis}
 use Rattle.section.specs.declared.sense.Sense.{Sense}
 use Rattle.section.specs.declared.sense.Sense.TheVariants.{Sagging}
 use Rattle.section.specs.Strips.{sum_to, strength_above, strength_below, moment_in, ◌⊕◌}
@@ -40,13 +40,9 @@ module _ (s : Sense) (p q r t : ℕ → ℕ) (k : ℕ) (within : k ≤ 4096) whe
       go (suc d) e = omega arith
 
 -- Mp at the axis of a sheet's plates with a lawful part
-pub axis_small : (s : Sheet) (p q : ℕ → ℕ) → sum_to p 4096 ≤ 2 ^ 36 → sum_to q 4096 ≤ 2 ^ 36 → (axis : ℕ × ℕ × ℕ) → IsAxis Sagging (with_plates (ledger s) p) (with_plates (ledger s) q) axis → axis.1 / 8192 ≤ 2 ^ 38
+pub axis_small : (s : Sheet) (p q : ℕ → ℕ) → sum_to p 4096 ≤ 2 ^ 36 → sum_to q 4096 ≤ 2 ^ 36 → (axis : Axis) → IsAxis Sagging (with_plates (ledger s) p) (with_plates (ledger s) q) axis → axis.moment / 8192 ≤ 2 ^ 38
 axis_small s p q a b axis is =
-    let plates = plate_strips s.plates.slots in
-    let small = moment_small Sagging plates p plates q axis.0 is.within (plates_laws.pushes_light s) a (plates_laws.pulls_light s) b in
-    let bound : axis.1 ≤ 2 ^ 51 = subst (λ (m : ℕ). m ≤ 2 ^ 51) (sym is.moment_is) small in
+    let plates = plate_strips (ledger s).plates in
+    let small = moment_small Sagging plates p plates q axis.level is.within (plates_laws.pushes_light s) a (plates_laws.pulls_light s) b in
+    let bound : axis.moment ≤ 2 ^ 51 = subst (λ (m : ℕ). m ≤ 2 ^ 51) (sym is.moment_is) small in
     omega arith
-
--- Mn is at most Mp
-pub nominal_le : (mp d e n : ℕ) → 0 < e → d ≤ 100 * e → n ≡ mp * d / (100 * e) → n ≤ mp
-nominal_le mp d e n h l is = subst (λ (x : ℕ). x ≤ mp) (sym is) (div-le_of_le-mul (100 * e) {m = mp * d} {n = mp} (omega (arith, mul-le-mul_left mp l)))

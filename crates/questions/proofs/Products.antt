@@ -1,21 +1,12 @@
 -- A sum's products with the factors of a range, in order and in size.
-use Rattle.std.proofs.Common.{◌≡◌, ℕ, suc, ◌*◌, ◌^◌, ◌≤◌, Bool, true, false, cond, ℤ, pos, negsuc, ◌+ℤ◌, nat_abs, ◌≤ℤ◌, sym, refl, ap, ◌∙◌, subst, mul-le-mul_right, mul-le-mul, arith, to_z-of_z, w64, SFits, to_z, of_z}
+use Rattle.std.proofs.Common.{◌≡◌, ℕ, suc, ◌*◌, ◌^◌, ◌≤◌, Bool, true, false, cond, ℤ, pos, negsuc, ◌+ℤ◌, nat_abs, ◌≤ℤ◌, refl, ap, ◌∙◌, subst, mul-le-mul_right, mul-le-mul, arith, to_z-of_z, w64, SFits, to_z, of_z}
 use lib.Signed.{lt_z}
-use mir.Facts.{to_z_pos}
-use borrow.Author.Differences as diff
+use Rattle.sheet.proofs.Sums.{halves}
 use borrow.Author.Differences.{ints}
 use Rattle.std.proofs.lemmas.Int.{clamps}
 use Rattle.loads.specs.Factors.{Range}
 use Rattle.questions.specs.Extremes.{times}
 use Rattle.questions.specs.Products.{least, greatest, Small}
-
-pub halves : (s : ℤ) (h : ℕ) → nat_abs s ≤ h → (diff.up s ≤ h) × (diff.down s ≤ h)
-halves (pos n) h l = omega arith
-halves (negsuc n) h l = omega arith
-
--- a factor goes to its bits and back
-pub factor : (k : ℕ) → k ≤ 1000 → to_z w64 k ≡ pos k
-factor k h = to_z_pos w64 (omega arith)
 
 pub product_fits : (k : ℕ) (s : ℤ) → k ≤ 1000 → nat_abs s ≤ 2 ^ 37 → SFits w64 (times k s)
 product_fits k s h l = let a = halves s (2 ^ 37) l in omega (arith, ints, mul-le-mul h a.0, mul-le-mul h a.1)
@@ -103,12 +94,6 @@ module _ (a b c d : ℤ) (p : Small a) (q : Small b) (r : Small c) (s : Small d)
 
   four_is : bits (bits (bits a +ℤ bits b) +ℤ bits c) +ℤ bits d ≡ a +ℤ b +ℤ c +ℤ d
   four_is = (λ i. bits (three_is i) +ℤ small_bits d s i) ∙ ap (λ (z : ℤ). z +ℤ d) (to_z-of_z three)
-
-  pub three_fits : SFits w64 (bits (bits a +ℤ bits b) +ℤ bits c)
-  three_fits = subst (SFits w64) (sym three_is) three
-
-  pub four_fits : SFits w64 (bits (bits (bits a +ℤ bits b) +ℤ bits c) +ℤ bits d)
-  four_fits = subst (SFits w64) (sym four_is) four
 
   pub four_back : bits (bits (bits (bits a +ℤ bits b) +ℤ bits c) +ℤ bits d) ≡ a +ℤ b +ℤ c +ℤ d
   four_back = ap bits four_is ∙ to_z-of_z four

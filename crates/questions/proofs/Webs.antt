@@ -1,14 +1,13 @@
--- The bounds of a standing web, of its buckling coefficient and of its shears.
-use Rattle.std.proofs.Common.{◌≡◌, ℕ, suc, ◌+◌, ◌*◌, ◌/◌, ◌<◌, ◌≤◌, Bool, true, false, cond, ◌&&◌, eqb, leb, List, [], ◌∷◌, Some, None, Option, sym, refl, ap, ◌∙◌, subst, mul-le-mul, arith, le-leb, leb-true}
+-- The bounds of a standing web, and of its buckling coefficient.
+use Rattle.std.proofs.Common.{◌≡◌, ℕ, suc, ◌+◌, ◌*◌, ◌/◌, ◌≤◌, Bool, true, false, cond, ◌&&◌, eqb, leb, List, [], ◌∷◌, Some, None, Option, sym, refl, ap, ◌∙◌, subst, mul-le-mul, arith, le-leb, leb-true}
 use native.Mathlib.Nat.{div-le_of_le-mul}
-use borrow.Author.Tests.{clash, lt-leb}
+use borrow.Author.Tests.{clash}
 use Rattle.sheet.specs.declared.plate.Role.{Role}
 use Rattle.sheet.specs.declared.plate.Role.TheVariants.{Web}
 use Rattle.sheet.specs.declared.plate.Plate.{Plate}
 use Rattle.sheet.specs.Plates.{role_number, is_sized, same_role, standing}
 use Rattle.sheet.specs.Invariants.{Within, within}
-use Rattle.questions.specs.Roots.{IsRoot}
-use Rattle.questions.specs.Shear.{WebFits, spacing_fits, Buckles, IsShearForce}
+use Rattle.questions.specs.Shear.{WebFits, spacing_fits, Buckles}
 
 -- a standing plate of a role is within its limits and has that role
 standing_kept : (r : Role) (xs : List (Option Plate)) → Within xs → (p : Plate) → standing r xs ≡ Some p → (within p ≡ true) × (same_role p.role r ≡ true)
@@ -52,7 +51,3 @@ buckles height o s h d is p q x y =
           (subst (λ (z : ℕ). Buckles z (Some s) (500 + 500 * (h * h) / (d * d))) p (subst (λ (z : ℕ). Buckles h (Some z) (500 + 500 * (h * h) / (d * d))) q (fits_from h d x y, refl))),
       omega arith,
     )
-
--- inelastic buckling
-pub inelastic : (D tw F k s v : ℕ) → 363776 * k * (tw * tw) < D * D * F → D * D * F ≤ 568400 * k * (tw * tw) → IsRoot (29000000 * k * F) s → v ≡ 6496 * (tw * tw) * s / 100000 → IsShearForce D tw F k v
-inelastic D tw F k s v x y r e = rw (lt-leb (D * D * F) (363776 * k * (tw * tw)) x, le-leb (D * D * F) (568400 * k * (tw * tw)) y) (s, r, e)

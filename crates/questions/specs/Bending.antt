@@ -3,6 +3,7 @@ use Rattle.std.specs.Prelude.{◌≡◌, ℕ, ◌-◌, ◌*◌, ◌/◌, ◌<◌
 use Rattle.faults.specs.declared.question.QuestionFault.{QuestionFault}
 use Rattle.faults.specs.declared.question.QuestionFault.TheVariants.{NoMoment, PlateMissing, SpacingLimits, StudLimits, UnlawfulFactors, UnknownState}
 use Rattle.loads.specs.declared.kind.EffectKind.TheVariants.{Moment}
+use Rattle.section.specs.declared.axis.Axis.{Axis}
 use Rattle.section.specs.declared.sense.Sense.TheVariants.{Sagging}
 use Rattle.section.specs.Parts.{IsDepth}
 use Rattle.section.specs.Axis.{IsAxis, LacksMoment}
@@ -16,6 +17,7 @@ use Rattle.questions.specs.declared.answers.Verdict.{Verdict}
 use Rattle.questions.specs.declared.answers.Verdict.TheVariants.{Carries, NotCompact, Brittle, TooWeak}
 use Rattle.questions.specs.declared.answers.Resistance.{Resistance}
 use Rattle.questions.specs.declared.answers.Bending.{Bending}
+use Rattle.questions.specs.declared.bending_of.PlateGirder.{PlateGirder}
 use Rattle.questions.specs.Extremes.{Choice, Chosen, times, factored}
 use Rattle.questions.specs.Together.{with_plates}
 
@@ -53,15 +55,15 @@ abbrev pub Lacks : Ledger → Type 0
 Lacks L = (standing TopFlange L.plates ≡ None) ⊎ ((standing Web L.plates ≡ None) ⊎ (standing BottomFlange L.plates ≡ None))
 
 -- the three plates: top flange, web, bottom flange
-abbrev pub ThreePlates : Ledger → Result (Plate × Plate × Plate) QuestionFault → Type 0
-ThreePlates L (Ok p) = (standing TopFlange L.plates ≡ Some p.0) × (standing Web L.plates ≡ Some p.1) × (standing BottomFlange L.plates ≡ Some p.2)
+abbrev pub ThreePlates : Ledger → Result PlateGirder QuestionFault → Type 0
+ThreePlates L (Ok p) = (standing TopFlange L.plates ≡ Some p.top) × (standing Web L.plates ≡ Some p.web) × (standing BottomFlange L.plates ≡ Some p.bottom)
 ThreePlates L (Err f) = (f ≡ PlateMissing) × Lacks L
 
 -- the resistance of the standing plates with a part of these pushes and pulls
 pub record IsResistance (L : Ledger) (pushes pulls : ℕ → ℕ) (r : Resistance) : Type 0 where
-  pub axis : ℕ × ℕ × ℕ
+  pub axis : Axis
   pub is_axis : IsAxis Sagging (with_plates L pushes) (with_plates L pulls) axis
-  pub some_moment : 0 < axis.1
+  pub some_moment : 0 < axis.moment
   pub plates_depth : ℕ
   pub is_plates_depth : IsDepth (plate_strips L.plates) (plate_strips L.plates) plates_depth
   pub part_depth : ℕ
@@ -72,16 +74,16 @@ pub record IsResistance (L : Ledger) (pushes pulls : ℕ → ℕ) (r : Resistanc
   pub is_web : standing Web L.plates ≡ Some web
   pub bottom : Plate
   pub is_bottom : standing BottomFlange L.plates ≡ Some bottom
-  pub level : r.level ≡ axis.0
-  pub mp : r.mp ≡ plastic_moment axis.1
-  pub mn : r.mn ≡ nominal_moment (plastic_moment axis.1) axis.0 (max plates_depth part_depth)
-  pub compact : r.compact ≡ not (not_compact top web bottom axis.0)
-  pub ductile : r.ductile ≡ not (brittle axis.0 (max plates_depth part_depth))
+  pub level : r.level ≡ axis.level
+  pub mp : r.mp ≡ plastic_moment axis.moment
+  pub mn : r.mn ≡ nominal_moment (plastic_moment axis.moment) axis.level (max plates_depth part_depth)
+  pub compact : r.compact ≡ not (not_compact top web bottom axis.level)
+  pub ductile : r.ductile ≡ not (brittle axis.level (max plates_depth part_depth))
 
 -- refused with 11 where some level has no moment, with 12 where there is an axis and one of the three is missing
 abbrev pub RefusesBending : Ledger → (ℕ → ℕ) → (ℕ → ℕ) → QuestionFault → Type 0
 RefusesBending L pushes pulls NoMoment = LacksMoment Sagging (with_plates L pushes) (with_plates L pulls)
-RefusesBending L pushes pulls PlateMissing = ((axis : ℕ × ℕ × ℕ) × IsAxis Sagging (with_plates L pushes) (with_plates L pulls) axis × (0 < axis.1)) × Lacks L
+RefusesBending L pushes pulls PlateMissing = ((axis : Axis) × IsAxis Sagging (with_plates L pushes) (with_plates L pulls) axis × (0 < axis.moment)) × Lacks L
 RefusesBending L pushes pulls SpacingLimits = ⊥
 RefusesBending L pushes pulls StudLimits = ⊥
 RefusesBending L pushes pulls UnlawfulFactors = ⊥

@@ -6,6 +6,7 @@ use Rattle.loads.specs.Kinds.{same_kind}
 use Rattle.loads.specs.Factors.{range}
 use Rattle.sheet.specs.declared.row.Row.{Row}
 use Rattle.sheet.specs.Totals.{total}
+use Rattle.questions.specs.declared.answers.Extremes.{Extremes}
 
 -- a choice: one whole factor for each load type, used on all its rows
 abbrev pub Choice : Type 0
@@ -28,7 +29,11 @@ abbrev pub factored : Choice → EffectKind → List (Option Row) → ℤ
 factored choice k rows = total (factored_slot choice k) rows
 
 -- the extremes: every choice's factored sum lies between them, and some choice meets each
-pub record Extremes (factors : List (ℕ × ℕ)) (k : EffectKind) (rows : List (Option Row)) (low high : ℤ) : Type 0 where
-  pub between : (choice : Choice) → Chosen factors choice → (low ≤ℤ factored choice k rows) × (factored choice k rows ≤ℤ high)
-  pub low_met : (choice : Choice) × Chosen factors choice × (factored choice k rows ≡ low)
-  pub high_met : (choice : Choice) × Chosen factors choice × (factored choice k rows ≡ high)
+pub record IsExtremes (factors : List (ℕ × ℕ)) (k : EffectKind) (rows : List (Option Row)) (e : Extremes) : Type 0 where
+  pub between : (choice : Choice) → Chosen factors choice → (e.low ≤ℤ factored choice k rows) × (factored choice k rows ≤ℤ e.high)
+  pub low_met : (choice : Choice) × Chosen factors choice × (factored choice k rows ≡ e.low)
+  pub high_met : (choice : Choice) × Chosen factors choice × (factored choice k rows ≡ e.high)
+
+-- extremes that are the only ones of these rows
+abbrev pub OnlyExtremes : List (ℕ × ℕ) → EffectKind → List (Option Row) → Extremes → Type 0
+OnlyExtremes factors k rows r = (e : Extremes) → IsExtremes factors k rows e → e ≡ r

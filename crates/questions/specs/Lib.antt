@@ -1,6 +1,7 @@
 pub mod Extremes
 pub mod Products
 pub mod Together
+pub mod Plates
 pub mod Bending
 pub mod Roots
 pub mod Shear

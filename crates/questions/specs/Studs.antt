@@ -1,5 +1,5 @@
 -- Shear studs.
-use Rattle.std.specs.Prelude.{◌≡◌, ℕ, ◌*◌, ◌/◌, ◌≤◌, min, Bool, true, false, Ok, Err, Result}
+use Rattle.std.specs.Prelude.{◌≡◌, ℕ, ◌*◌, ◌/◌, ◌≤◌, min, Ok, Err, Result}
 use Rattle.faults.specs.declared.question.QuestionFault.{QuestionFault}
 use Rattle.faults.specs.declared.question.QuestionFault.TheVariants.{StudLimits}
 use Rattle.section.specs.Strips.{sum_to}
@@ -19,11 +19,6 @@ pub record StudFits (s : Stud) : Type 0 where
   pub greatest_fc : s.fc ≤ 10000
   pub least_ec : 1000000 ≤ s.ec
   pub greatest_ec : s.ec ≤ 10000000
-
--- a test of it
-abbrev pub Tests : Bool → Type 0 → Type 0
-Tests true P = P
-Tests false P = P → ⊥
 
 -- Q, the resistance of one stud in pounds: the lesser of a × s / 2,000, s the whole square root of f'c × Ec, and a × Fu / 1,000, each rounded down
 abbrev pub IsStudForce : Stud → ℕ → Type 0

@@ -4,16 +4,12 @@ ghost use Rattle.sheet.specs.Ledger.{ledger};
 ghost use Rattle.questions.specs.Together.{with_plates, OnlyAxis};
 
 use faults::QuestionFault;
-use section::{Part, Sense, plastic_axis};
+use section::{Axis, Part, Sense, plastic_axis};
 use sheet::Sheet;
 
 // Level, plastic moment and imbalance at the axis; refused with 11 where the smallest plastic
 // moment is 0.
-pub fn axis<P: Part>(
-    sheet: &Sheet,
-    part: &P,
-    sense: Sense,
-) -> Result<(u16, u64, u64), QuestionFault>
+pub fn axis<P: Part>(sheet: &Sheet, part: &P, sense: Sense) -> Result<Axis, QuestionFault>
     ensures answer { AxisAnswer sense (with_plates (ledger sheet.now) (P.pushes part.now)) (with_plates (ledger sheet.now) (P.pulls part.now)) result }
     ensures only { OnlyAxis sense (with_plates (ledger sheet.now) (P.pushes part.now)) (with_plates (ledger sheet.now) (P.pulls part.now)) result }
 {

@@ -7,26 +7,29 @@ ghost use Rattle.questions.specs.Bending.{nominal_moment, not_compact, brittle, 
 use crate::answers::{Bending, Resistance, Verdict};
 use crate::axis_of::axis;
 use crate::extremes_of::extremes;
+use crate::plates::plate_of;
 use faults::QuestionFault;
 use loads::{EffectKind, LimitState};
-use section::{Part, Sense};
+use section::{Axis, Part, Sense};
 use sheet::{Plate, Role, Sheet};
 
 // The bending resistance; refused with 11 where the smallest plastic moment is 0, then with 12
-// where a flange or the web is missing.
+// where a flange or the web is missing. The bound is no ghost field of `Resistance`, whose fields are public: there it would be asked of
+// whoever makes one.
+#[tactic(auto, using(crate::proofs::Depths::axis_small))]
 pub fn resistance<P: Part>(sheet: &Sheet, part: &P) -> Result<Resistance, QuestionFault>
     ensures answer { ResistanceAnswer (ledger sheet.now) (P.pushes part.now) (P.pulls part.now) result }
     ensures small { IfOk result (λ x. (x.mp ≤ 2 ^ 38) × (x.mn ≤ 2 ^ 38)) }
 {
-    let (level, moment, _) = axis(sheet, part, Sense::Sagging)?;
-    let (top, web, bottom) = three_plates(sheet)?;
+    let Axis { level, moment, .. } = axis(sheet, part, Sense::Sagging)?;
+    let plates = PlateGirder::standing(sheet)?;
     let depth = sheet.depth().max(part.depth());
     let mp = moment / 8192;
     Ok(Resistance {
         level,
         mp,
         mn: nominal_moment(mp, level, depth),
-        compact: is_compact(&top, &web, &bottom, level),
+        compact: plates.is_compact(level),
         ductile: is_ductile(level, depth),
     })
 }
@@ -60,8 +63,8 @@ impl Resistance {
         if !self.ductile {
             return Verdict::Brittle;
         }
-        let (_, high) = extremes(sheet, state, EffectKind::Moment);
-        if exceeds(high, self.mn) {
+        let sums = extremes(sheet, state, EffectKind::Moment);
+        if exceeds(sums.high, self.mn) {
             Verdict::TooWeak
         } else {
             Verdict::Carries
@@ -69,20 +72,38 @@ impl Resistance {
     }
 }
 
-// The flanges and the web: top flange, web, bottom flange; refused with 12 where one is missing.
-fn three_plates(sheet: &Sheet) -> Result<(Plate, Plate, Plate), QuestionFault>
-    ensures { ThreePlates (ledger sheet.now) result }
-{
-    let top = sheet
-        .with_role(Role::TopFlange)
-        .ok_or(QuestionFault::PlateMissing)?;
-    let web = sheet
-        .with_role(Role::Web)
-        .ok_or(QuestionFault::PlateMissing)?;
-    let bottom = sheet
-        .with_role(Role::BottomFlange)
-        .ok_or(QuestionFault::PlateMissing)?;
-    Ok((top, web, bottom))
+// The plates that bending reads.
+#[derive(Clone, Copy)]
+struct PlateGirder {
+    top: Plate,
+    web: Plate,
+    bottom: Plate,
+}
+
+impl PlateGirder {
+    // The standing flanges and web; refused with 12 where one is missing.
+    fn standing(sheet: &Sheet) -> Result<PlateGirder, QuestionFault>
+        ensures { ThreePlates (ledger sheet.now) result }
+    {
+        Ok(PlateGirder {
+            top: plate_of(sheet, Role::TopFlange)?,
+            web: plate_of(sheet, Role::Web)?,
+            bottom: plate_of(sheet, Role::BottomFlange)?,
+        })
+    }
+
+    // Whether it is compact with the axis at a level.
+    fn is_compact(&self, dp: u16) -> bool
+        ensures { result ≡ not (not_compact self.now.top self.now.web self.now.bottom dp) }
+    {
+        let PlateGirder { top, web, bottom } = self;
+        let strong = top.fy > 70_000 || bottom.fy > 70_000;
+        let high = u32::from(web.height) > 150 * u32::from(web.breadth);
+        let above = u128::from(dp.saturating_sub(web.top).min(web.height));
+        let breadth = u128::from(web.breadth);
+        let slender = 4 * (above * above) * u128::from(top.fy) > 409_990_400 * (breadth * breadth);
+        !(strong || high || slender)
+    }
 }
 
 fn nominal_moment(mp: u64, dp: u16, dt: u16) -> u64
@@ -99,17 +120,6 @@ fn nominal_moment(mp: u64, dp: u16, dt: u16) -> u64
     mp * (107 * dt).saturating_sub(70 * dp) / (100 * dt)
 }
 
-fn is_compact(top: &Plate, web: &Plate, bottom: &Plate, dp: u16) -> bool
-    ensures { result ≡ not (not_compact top.now web.now bottom.now dp) }
-{
-    let strong = top.fy > 70_000 || bottom.fy > 70_000;
-    let high = u32::from(web.height) > 150 * u32::from(web.breadth);
-    let above = u128::from(dp.saturating_sub(web.top).min(web.height));
-    let breadth = u128::from(web.breadth);
-    let slender = 4 * (above * above) * u128::from(top.fy) > 409_990_400 * (breadth * breadth);
-    !(strong || high || slender)
-}
-
 fn is_ductile(dp: u16, dt: u16) -> bool
     ensures { result ≡ not (brittle dp dt) }
 {
@@ -121,5 +131,5 @@ fn is_ductile(dp: u16, dt: u16) -> bool
 fn exceeds(sum: i64, mn: u64) -> bool
     ensures { result ≡ int_lt (pos (100 * mn)) (times 750 sum) }
 {
-    sum as i128 * 750 > 100 * (mn as i128)
+    i128::from(sum) * 750 > 100 * i128::from(mn)
 }

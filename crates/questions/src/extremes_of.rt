@@ -1,44 +1,49 @@
 // The extremes of the factored sum, over all choices of load factors.
-ghost use Rattle.std.specs.Prelude.{◌≡◌, ◌^◌, ◌≤◌, ℤ, ◌+ℤ◌, unsigned_abs};
+ghost use Rattle.std.specs.Prelude.{◌≡◌, ◌^◌, ◌≤◌, ◌+ℤ◌, unsigned_abs};
 ghost use Rattle.loads.specs.Factors.{range};
 ghost use Rattle.sheet.specs.Ledger.{ledger};
-ghost use Rattle.questions.specs.Extremes.{Extremes};
+ghost use Rattle.questions.specs.Extremes.{IsExtremes, OnlyExtremes};
 ghost use Rattle.questions.specs.Products.{least, greatest, Small};
 
+use crate::answers::Extremes;
 use loads::{EffectKind, LimitState, LoadType};
 use sheet::Sheet;
 
-// The least and the greatest factored sum of the standing moments or shears, in hundredths of a
-// sixteenth.
-pub fn extremes(sheet: &Sheet, state: &LimitState, kind: EffectKind) -> (i64, i64)
-    ensures answer { Extremes state.now.factors kind (ledger sheet.now).rows result.0 result.1 }
-    ensures only { (low high : ℤ) → Extremes state.now.factors kind (ledger sheet.now).rows low high → (low ≡ result.0) × (high ≡ result.1) }
+// The extremes of the factored sum of the standing moments or shears.
+pub fn extremes(sheet: &Sheet, state: &LimitState, kind: EffectKind) -> Extremes
+    ensures answer { IsExtremes state.now.factors kind (ledger sheet.now).rows result }
+    ensures only { OnlyExtremes state.now.factors kind (ledger sheet.now).rows result }
 {
     // A type's factor goes to all its rows, so each type's extremes come from its sum alone.
+    // Type by type, as the four sums come.
     let [dc, dw, ll, ws] = sheet.type_sums(kind);
     let dc = type_extremes(state, LoadType::Dc, dc);
     let dw = type_extremes(state, LoadType::Dw, dw);
     let ll = type_extremes(state, LoadType::Ll, ll);
     let ws = type_extremes(state, LoadType::Ws, ws);
-    (
-        sum_of(dc.0, dw.0, ll.0, ws.0),
-        sum_of(dc.1, dw.1, ll.1, ws.1),
-    )
+    Extremes {
+        low: sum_of(dc.low, dw.low, ll.low, ws.low),
+        high: sum_of(dc.high, dw.high, ll.high, ws.high),
+    }
 }
 
 // The least and the greatest product of a load type's sum with a factor of its range.
-fn type_extremes(state: &LimitState, load: LoadType, sum: i64) -> (i64, i64)
+fn type_extremes(state: &LimitState, load: LoadType, sum: i64) -> Extremes
     requires { unsigned_abs sum ≤ 2 ^ 37 }
-    ensures low { result.0 ≡ least (range state.now.factors load) sum }
-    ensures high { result.1 ≡ greatest (range state.now.factors load) sum }
-    ensures small { (Small result.0) × (Small result.1) }
+    ensures low { result.low ≡ least (range state.now.factors load) sum }
+    ensures high { result.high ≡ greatest (range state.now.factors load) sum }
+    ensures small { (Small result.low) × (Small result.high) }
 {
     let (low, high) = state.factors(load);
-    let at_low = low as i64 * sum;
-    let at_high = high as i64 * sum;
-    (at_low.min(at_high), at_low.max(at_high))
+    let at_low = i64::from(low) * sum;
+    let at_high = i64::from(high) * sum;
+    Extremes {
+        low: at_low.min(at_high),
+        high: at_low.max(at_high),
+    }
 }
 
+// As a sum over an array it would not be shorter: `sum` of signed numbers states no bound, and a loop wants one for each partial sum.
 fn sum_of(dc: i64, dw: i64, ll: i64, ws: i64) -> i64
     requires { (Small dc) × ((Small dw) × ((Small ll) × (Small ws))) }
     ensures { result ≡ dc +ℤ dw +ℤ ll +ℤ ws }

@@ -5,13 +5,14 @@ mod answers;
 mod axis_of;
 mod bending_of;
 mod extremes_of;
+mod plates;
 mod shear_answer;
 mod shear_of;
 mod square_root;
 mod stud;
 mod studs_of;
 
-pub use answers::{Bending, Resistance, Verdict};
+pub use answers::{Bending, Extremes, Resistance, Verdict};
 pub use axis_of::axis;
 pub use bending_of::{bending, resistance};
 pub use extremes_of::extremes;

@@ -1,7 +1,7 @@
 // The answer to the shear question.
 use crate::answers::Verdict;
 
-#[derive(Clone, Copy)]
+#[derive(Clone, Copy, Debug, PartialEq, Eq)]
 pub struct ShearAnswer {
     // V in force units, 1/256 pound
     pub resistance: u64,

@@ -4,8 +4,9 @@ ghost use Rattle.sheet.specs.Ledger.{ledger};
 ghost use Rattle.questions.specs.Roots.{IsRoot};
 ghost use Rattle.questions.specs.Shear.{BucklingAnswer, WebFits, IsShearForce, ShearResistanceAnswer, JudgesShear, IsShear};
 
-use crate::answers::Verdict;
+use crate::answers::{Extremes, Verdict};
 use crate::extremes_of::extremes;
+use crate::plates::plate_of;
 use crate::shear_answer::ShearAnswer;
 use crate::square_root::whole_root;
 use faults::QuestionFault;
@@ -14,12 +15,11 @@ use sheet::{Plate, Role, Sheet};
 
 // The web's resistance in force units, with or without stiffeners; refused with 12 where the web
 // is missing, then with 13 where the spacing is outside its range.
+#[tactic(auto, using(crate::proofs::Webs::web_fits))]
 pub fn shear_resistance(sheet: &Sheet, spacing: Option<u16>) -> Result<u64, QuestionFault>
     ensures { ShearResistanceAnswer (ledger sheet.now) spacing result }
 {
-    let web = sheet
-        .with_role(Role::Web)
-        .ok_or(QuestionFault::PlateMissing)?;
+    let web = plate_of(sheet, Role::Web)?;
     let k = buckling(web.height, spacing)?;
     Ok(web_resistance(&web, k))
 }
@@ -44,7 +44,7 @@ pub fn shear(
 pub fn shear_verdict(sheet: &Sheet, resistance: u64, state: &LimitState) -> Verdict
     ensures { JudgesShear state.now.factors (ledger sheet.now).rows resistance result }
 {
-    let (low, high) = extremes(sheet, state, EffectKind::Shear);
+    let Extremes { low, high } = extremes(sheet, state, EffectKind::Shear);
     let largest = low.unsigned_abs().max(high.unsigned_abs());
     if u128::from(largest) * 16_000 > 100 * u128::from(resistance) {
         Verdict::TooWeak

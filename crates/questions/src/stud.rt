@@ -1,5 +1,5 @@
 // A shear stud, and what is answered of it.
-#[derive(Clone, Copy)]
+#[derive(Clone, Copy, Debug, PartialEq, Eq)]
 pub struct Stud {
     // in thousandths of a square inch
     pub area: u16,
@@ -10,7 +10,7 @@ pub struct Stud {
     pub ec: u32,
 }
 
-#[derive(Clone, Copy)]
+#[derive(Clone, Copy, Debug, PartialEq, Eq)]
 pub struct StudAnswer {
     // Q of one stud, in pounds
     pub force: u64,

@@ -1,7 +1,7 @@
 // The number of shear studs.
-ghost use Rattle.std.specs.Prelude.{◌≡◌, ◌^◌, ◌≤◌};
+ghost use Rattle.std.specs.Prelude.{◌≡◌, ◌^◌, ◌≤◌, ◌↔◌, IsTrue};
 ghost use Rattle.sheet.specs.Ledger.{ledger};
-ghost use Rattle.questions.specs.Studs.{StudFits, Tests, IsStudForce, IsCount, interface_force, AnswersStuds};
+ghost use Rattle.questions.specs.Studs.{StudFits, IsStudForce, IsCount, interface_force, AnswersStuds};
 
 use crate::square_root::whole_root;
 use crate::stud::{Stud, StudAnswer};
@@ -11,6 +11,7 @@ use sheet::Sheet;
 
 // The resistance of one stud, and how many carry over the lesser of the part's total push and the
 // plates' total pull; refused with 14.
+#[tactic(auto, using(crate::proofs::StudCounts::all_above, crate::proofs::StudCounts::all_below))]
 pub fn studs<P: Part>(sheet: &Sheet, part: &P, stud: Stud) -> Result<StudAnswer, QuestionFault>
     ensures { AnswersStuds (ledger sheet.now) (P.pushes part.now) stud result }
 {
@@ -30,12 +31,12 @@ pub fn studs<P: Part>(sheet: &Sheet, part: &P, stud: Stud) -> Result<StudAnswer,
 impl Stud {
     // Whether its measures are within their limits.
     pub fn is_lawful(&self) -> bool
-        ensures { Tests result (StudFits self.now) }
+        ensures { IsTrue result ↔ StudFits self.now }
     {
-        let sized = 100 <= self.area && self.area <= 1000;
-        let steel = 50_000 <= self.fu && self.fu <= 80_000;
-        let concrete = 2000 <= self.fc && self.fc <= 10_000;
-        let stiff = 1_000_000 <= self.ec && self.ec <= 10_000_000;
+        let sized = (100..=1000).contains(&self.area);
+        let steel = (50_000..=80_000).contains(&self.fu);
+        let concrete = (2000..=10_000).contains(&self.fc);
+        let stiff = (1_000_000..=10_000_000).contains(&self.ec);
         sized && steel && concrete && stiff
     }
 

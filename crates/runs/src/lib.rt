@@ -7,4 +7,4 @@ mod reply;
 
 pub use call::Call;
 pub use replays::{answer, replay, replay_into};
-pub use reply::Reply;
+pub use reply::{Answer, CallFault, Reply};

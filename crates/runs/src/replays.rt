@@ -2,31 +2,33 @@
 ghost use Rattle.std.specs.Prelude.{◌≡◌, map, IfOk};
 ghost use Rattle.sheet.specs.Ledger.{ledger};
 ghost use Rattle.runs.specs.Requests.{request};
-ghost use Rattle.runs.specs.Run.{replied, TellsExtremes, TellsAxis, TellsBending, Brings, Run, RunsInto};
+ghost use Rattle.runs.specs.Run.{replied, Brings, Run, RunsInto};
 
 use crate::call::Call;
-use crate::reply::Reply;
+use crate::reply::{Answer, Reply};
 use faults::SheetFault;
-use loads::{EffectKind, LimitState};
-use section::{Part, Sense};
+use questions::{axis, bending, extremes};
+use section::Part;
 use sheet::Sheet;
 use std::alloc::{AllocError, Global};
 
 // Opens a new sheet and makes every call in order: the sheet, and the reply to each call.
+#[tactic(auto, using(crate::proofs::Replies::run_steps))]
 pub fn replay<P: Part>(heap: Global, calls: &[Call<P>]) -> Result<(Sheet, Vec<Reply>), AllocError>
     ensures { IfOk result (λ p. Run (map (request P.pushes P.pulls) calls.now) p.1.items (ledger p.0)) }
 {
     let mut sheet = Sheet::new();
     let mut replies = Vec::new(heap);
+    // a loop: a closure under `map` would change the sheet, and the proof would know nothing of what it returned
     for call in calls {
-        let reply = answer(&mut sheet, call);
-        replies.push(reply)?;
+        replies.push(answer(&mut sheet, call))?;
     }
     Ok((sheet, replies))
 }
 
 // The same with no memory of its own: the replies go into a slice, which has to be as long as the
 // calls; else nothing is done.
+#[tactic(auto, using(crate::proofs::Replies::run_steps))]
 pub fn replay_into<P: Part>(calls: &[Call<P>], replies: &mut [Reply]) -> Option<Sheet>
     ensures { RunsInto (map (request P.pushes P.pulls) calls.now) replies.old result replies.new }
 {
@@ -34,6 +36,7 @@ pub fn replay_into<P: Part>(calls: &[Call<P>], replies: &mut [Reply]) -> Option<
         return None;
     }
     let mut sheet = Sheet::new();
+    // By index: of a slice whose `iter_mut` was zipped with the calls only the length would be known.
     for (i, call) in calls.iter().enumerate() {
         replies[i] = answer(&mut sheet, call);
     }
@@ -41,55 +44,25 @@ pub fn replay_into<P: Part>(calls: &[Call<P>], replies: &mut [Reply]) -> Option<
 }
 
 // Makes one call.
+#[tactic(auto, using(crate::proofs::Changing::brings_change))]
 pub fn answer<P: Part>(sheet: &mut Sheet, call: &Call<P>) -> Reply
     ensures { Brings (ledger sheet.old) (request P.pushes P.pulls call.now) result (ledger sheet.new) }
 {
     match call {
-        Call::Place { slot, plate } => change(sheet.place(*slot, *plate)),
-        Call::Lift { slot } => change(sheet.lift(*slot)),
-        Call::Lower { levels } => change(sheet.lower(*levels)),
-        Call::Enter { slot, load, effect } => change(sheet.enter(*slot, *load, *effect)),
-        Call::Strike { slot } => change(sheet.strike(*slot)),
-        Call::Extremes { state, kind } => extremes(sheet, state, *kind),
-        Call::Axis { part, sense } => axis(sheet, part, *sense),
-        Call::Bending { part, state } => bending(sheet, part, state),
+        Call::Place { slot, plate } => done(sheet.place(*slot, *plate)),
+        Call::Lift { slot } => done(sheet.lift(*slot)),
+        Call::Lower { levels } => done(sheet.lower(*levels)),
+        Call::Enter { slot, load, effect } => done(sheet.enter(*slot, *load, *effect)),
+        Call::Strike { slot } => done(sheet.strike(*slot)),
+        Call::Extremes { state, kind } => Ok(Answer::Extremes(extremes(sheet, state, *kind))),
+        Call::Axis { part, sense } => Ok(Answer::Axis(axis(sheet, part, *sense)?)),
+        Call::Bending { part, state } => Ok(Answer::Bending(bending(sheet, part, state)?)),
     }
 }
 
-fn change(res: Result<(), SheetFault>) -> Reply
-    ensures { result ≡ replied res }
+fn done(change: Result<(), SheetFault>) -> Reply
+    ensures { result ≡ replied change }
 {
-    match res {
-        Ok(()) => Reply::Done,
-        Err(fault) => Reply::ChangeRefused(fault),
-    }
-}
-
-fn extremes(sheet: &Sheet, state: &LimitState, kind: EffectKind) -> Reply
-    ensures { TellsExtremes (ledger sheet.now) state.now.factors kind result }
-{
-    let (low, high) = questions::extremes(sheet, state, kind);
-    Reply::Extremes { low, high }
-}
-
-fn axis<P: Part>(sheet: &Sheet, part: &P, sense: Sense) -> Reply
-    ensures { TellsAxis (ledger sheet.now) (P.pushes part.now) (P.pulls part.now) sense result }
-{
-    match questions::axis(sheet, part, sense) {
-        Ok((level, moment, imbalance)) => Reply::Axis {
-            level,
-            moment,
-            imbalance,
-        },
-        Err(fault) => Reply::QuestionRefused(fault),
-    }
-}
-
-fn bending<P: Part>(sheet: &Sheet, part: &P, state: &LimitState) -> Reply
-    ensures { TellsBending (ledger sheet.now) (P.pushes part.now) (P.pulls part.now) state.now.factors result }
-{
-    match questions::bending(sheet, part, state) {
-        Ok(found) => Reply::Bending(found),
-        Err(fault) => Reply::QuestionRefused(fault),
-    }
+    change?;
+    Ok(Answer::Done)
 }

@@ -1,19 +1,45 @@
 // The reply to a call.
-use faults::{QuestionFault, SheetFault};
+ghost use Rattle.std.specs.Prelude.{◌≡◌};
+ghost use Rattle.runs.specs.declared.reply.CallFault.TheVariants.{Sheet, Question};
 
-#[derive(Clone, Copy)]
-pub enum Reply {
+use faults::{QuestionFault, SheetFault};
+use questions::{Bending, Extremes};
+use section::Axis;
+use thiserror::Error;
+
+// What a call came to: of a change only that it was done.
+#[derive(Clone, Copy, Debug, PartialEq, Eq)]
+pub enum Answer {
     Done,
-    ChangeRefused(SheetFault),
-    Extremes {
-        low: i64,
-        high: i64,
-    },
-    Axis {
-        level: u16,
-        moment: u64,
-        imbalance: u64,
-    },
-    Bending(questions::Bending),
-    QuestionRefused(QuestionFault),
+    Extremes(Extremes),
+    Axis(Axis),
+    Bending(Bending),
 }
+
+// Why a call was refused: a change as changes are, a question as questions are.
+#[derive(Clone, Copy, Debug, PartialEq, Eq, Error)]
+pub enum CallFault {
+    #[error("{0}")]
+    Sheet(SheetFault),
+    #[error("{0}")]
+    Question(QuestionFault),
+}
+
+// By hand: clauses name the error that a `?` makes, and a derived `From` promises none.
+impl From<SheetFault> for CallFault {
+    ghost from_gives = { λ f r. r ≡ Sheet f };
+
+    fn from(fault: SheetFault) -> CallFault {
+        CallFault::Sheet(fault)
+    }
+}
+
+impl From<QuestionFault> for CallFault {
+    ghost from_gives = { λ f r. r ≡ Question f };
+
+    fn from(fault: QuestionFault) -> CallFault {
+        CallFault::Question(fault)
+    }
+}
+
+pub type Reply = Result<Answer, CallFault>;

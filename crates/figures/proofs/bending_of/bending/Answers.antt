@@ -31,7 +31,7 @@ deck_depth = record {
 -- whatever rows stand
 resists : (rows : List (Option Row)) → IsResistance (record { plates = girder.plates; rows = rows }) deck_pushes deck_pulls resistance
 resists rows = record {
-  axis = (131, 670355404800, 9267200);
+  axis = record { level = 131; moment = 670355404800; imbalance = 9267200 };
   is_axis = composite;
   some_moment = lit< tt;
   plates_depth = 808;
@@ -52,7 +52,7 @@ resists rows = record {
 }
 
 carried : Carried
-carried factors rows low e = (refl, refl, none_above factors Moment rows low (pos 10436223) 7827167600 750 e refl)
+carried factors rows low e = (refl, refl, none_above factors Moment rows (record { low = low; high = pos 10436223 }) 7827167600 750 e refl)
 
 not_carried : NotCarried
 not_carried factors rows low e =
@@ -78,7 +78,7 @@ returns c = record {
       level = refl;
       mp = refl;
       mn = refl;
-      verdict = carried factors at_limit.rows (pos 10436223) (extremes_from factors Moment at_limit.rows (pos 10436223) (pos 10436223) lawful refl refl);
+      verdict = carried factors at_limit.rows (pos 10436223) (extremes_from factors Moment at_limit.rows (record { low = pos 10436223; high = pos 10436223 }) lawful refl refl);
     },
   );
   past_limit = record {
@@ -87,6 +87,6 @@ returns c = record {
     level = refl;
     mp = refl;
     mn = refl;
-    verdict = not_carried factors past_limit.rows (pos 10436224) (extremes_from factors Moment past_limit.rows (pos 10436224) (pos 10436224) lawful refl refl);
+    verdict = not_carried factors past_limit.rows (pos 10436224) (extremes_from factors Moment past_limit.rows (record { low = pos 10436224; high = pos 10436224 }) lawful refl refl);
   };
 }

@@ -8,4 +8,4 @@ use Rattle.figures.specs.LoadEffects.{dead_and_live}
 use Rattle.figures.proofs.load_effects.dead_and_live.Goals as goal
 
 pub returns : goal.returns
-returns c = extremes_from strength_i Moment dead_and_live.rows (pos 1648000) (pos 6680000) (published_lawful 0) refl refl
+returns c = extremes_from strength_i Moment dead_and_live.rows (record { low = pos 1648000; high = pos 6680000 }) (published_lawful 0) refl refl

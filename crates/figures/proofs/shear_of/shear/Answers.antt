@@ -4,12 +4,8 @@ use Rattle.sheet.specs.Plates.{plate_of}
 use Rattle.figures.specs.Girders.{web}
 use Rattle.figures.proofs.shear_of.shear.Goals as goal
 
-pub returns : goal.returns
-returns c = record {
-  unstiffened = record { web = plate_of web; is_web = refl; k = 500; buckles = refl; is_force = refl };
-  stiffened = (
-    (refl, refl),
-    record { web = plate_of web; is_web = refl; k = 722; buckles = (refl, refl); is_force = (32355834, record { square_fits = lit≤ tt; next_passes = lit< tt }, refl) },
-  );
-  spacings = (refl, refl, refl, refl);
-}
+pub returns-clause-stiffened : goal.returns-clause-stiffened
+returns-clause-stiffened c = (
+  (refl, refl),
+  record { web = plate_of web; is_web = refl; k = 722; buckles = (refl, refl); is_force = (32355834, record { square_fits = lit≤ tt; next_passes = lit< tt }, refl) },
+)

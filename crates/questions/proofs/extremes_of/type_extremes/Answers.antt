@@ -1,24 +1,10 @@
 -- `questions::extremes_of::type_extremes` meets its contract.
-use Rattle.std.proofs.Common.{◌≡◌, ℕ, ◌*◌, ◌^◌, ◌≤◌, ℤ, nat_abs, sym, ap, ◌∙◌, subst, to_z-of_z, w64, SFits}
+use Rattle.std.proofs.Common.{◌≡◌, ℕ, ◌*◌, ◌^◌, ◌≤◌, ℤ, pos, nat_abs, sym, ap, ◌∙◌, subst, to_z-of_z, w64, SFits, to_z, of_z}
 use Rattle.loads.specs.Factors.{Range}
 use Rattle.questions.specs.Extremes.{times}
 use Rattle.questions.specs.Products.{least, greatest}
-use Rattle.questions.proofs.Products.{product_fits, factor, least-small, greatest-small, at_most}
+use Rattle.questions.proofs.Products.{product_fits, least-small, greatest-small, at_most}
 use Rattle.questions.proofs.extremes_of.type_extremes.Goals as goal
-
--- the factors are the lawful state's
-lawful : (c : goal.After-factors-low) → Range c.factors-low.result
-lawful c = subst Range (sym c.factors-low.ensures) (c.args.state.now.lawful c.args.load)
-
-pub overflow_mul-at_low : goal.overflow_mul-at_low
-overflow_mul-at_low c =
-    let h = at_most c.factors-low.result (lawful c) in
-    simp (factor c.factors-low.result.0 h.0, to_z-of_z c.ranges.sum) (product_fits c.factors-low.result.0 c.args.sum h.0 c.requires)
-
-pub overflow_mul-at_high : goal.overflow_mul-at_high
-overflow_mul-at_high c =
-    let h = at_most c.factors-low.result (lawful c) in
-    simp (factor c.factors-low.result.1 h.1, to_z-of_z c.ranges.sum) (product_fits c.factors-low.result.1 c.args.sum h.1 c.requires)
 
 pub returns : goal.returns
 returns c =
@@ -31,8 +17,10 @@ returns c =
     let g : SFits w64 (times r.1 s) = product_fits r.1 s h.1 c.requires in
     let o : SFits w64 c.min.result = record { sfits = c.min.type_inv } in
     let p : SFits w64 c.max.result = record { sfits = c.max.type_inv } in
-    let lo : c.min.result ≡ least r s = simp (factor r.0 h.0, factor r.1 h.1, to_z-of_z c.ranges.sum, to_z-of_z f, to_z-of_z g) at c.min.ensures.value in
-    let hi : c.max.result ≡ greatest r s = simp (factor r.0 h.0, factor r.1 h.1, to_z-of_z c.ranges.sum, to_z-of_z f, to_z-of_z g) at c.max.ensures.value in
+    let a : to_z w64 (of_z w64 c.from.result) ≡ pos r.0 = to_z-of_z {w = w64} (record { sfits = c.from.type_inv }) ∙ c.from.ensures in
+    let b : to_z w64 (of_z w64 c.from-2.result) ≡ pos r.1 = to_z-of_z {w = w64} (record { sfits = c.from-2.type_inv }) ∙ c.from-2.ensures in
+    let lo : c.min.result ≡ least r s = simp (a, b, to_z-of_z c.ranges.sum, to_z-of_z f, to_z-of_z g) at c.min.ensures.value in
+    let hi : c.max.result ≡ greatest r s = simp (a, b, to_z-of_z c.ranges.sum, to_z-of_z f, to_z-of_z g) at c.max.ensures.value in
     simp (to_z-of_z o, to_z-of_z p) (record {
       low = lo ∙ ap (λ (q : ℕ × ℕ). least q s) e;
       high = hi ∙ ap (λ (q : ℕ × ℕ). greatest q s) e;

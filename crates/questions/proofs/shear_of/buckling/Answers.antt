@@ -1,10 +1,6 @@
 -- `questions::shear_of::buckling` meets its contract.
-use Rattle.std.proofs.Common.{◌<◌, mul-pos, arith}
 use Rattle.questions.proofs.Webs.{buckles}
 use Rattle.questions.proofs.shear_of.buckling.Goals as goal
-
-pub nonzero_div-result : goal.nonzero_div-result
-nonzero_div-result c = let d : 0 < c.from-spacing.result = omega arith in mul-pos d d
 
 pub returns-else-spacing-height : goal.returns-else-spacing-height
 returns-else-spacing-height c =
