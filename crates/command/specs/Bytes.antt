@@ -1,5 +1,5 @@
 -- What a record's bytes say: one byte for the command, then its operands in fixed widths, big end first.
-use Rattle.std.specs.Prelude.{ℕ, ◌+◌, ◌*◌, cond, List, [], ◌∷◌, length, drop, Ok, Err, Result, ◌==◌, nat_lt, slice_index}
+use Rattle.std.specs.Prelude.{◌≡◌, ℕ, ◌+◌, ◌*◌, ◌<◌, ◌≤◌, cond, List, [], ◌∷◌, length, take, drop, Ok, Err, Result, ◌==◌, nat_lt, slice_index}
 use Rattle.std.proofs.Common.{to_z}
 use Rattle.std.specs.Int.{w32}
 use Rattle.std.specs.Borrow.{Bor}
@@ -23,6 +23,11 @@ four_bytes ops i = byte ops i * 16777216 + byte ops (i + 1) * 65536 + byte ops (
 -- a command with n operand bytes, and the bytes after it; cut short where there are fewer
 abbrev pub taking : ℕ → List ℕ → Command → Result (Command × List ℕ) ReadFault
 taking n ops c = cond (nat_lt (length ops) n) (Err CutShort) (Ok (c, drop n ops))
+
+-- the first n bytes and the bytes after them; cut short where there are fewer
+abbrev pub Splits : ℕ → List ℕ → Result (Bor (List ℕ) × Bor (List ℕ)) ReadFault → Type 0
+Splits n ops (Ok p) = (n ≤ length ops) × (p.0.now ≡ take n ops) × (p.1.now ≡ drop n ops)
+Splits n ops (Err f) = (length ops < n) × (f ≡ CutShort)
 
 abbrev pub place : List ℕ → Command
 place ops = Place (byte ops 0) (byte ops 1) (two_bytes ops 2) (two_bytes ops 4) (two_bytes ops 6) (four_bytes ops 8)

@@ -1,5 +1,7 @@
-// A command with its operands as they stand in the record: codes are not judged yet.
-#[derive(Clone, Copy)]
+// A command with its operands as they stand in the record.
+// Codes stay raw numbers: the record refuses one only when the command is run, and its length must be known by then.
+// Operands stand apart, and not as a sheet's plate or a deck's slab: taking bytes apart needs neither crate.
+#[derive(Clone, Copy, Debug, PartialEq, Eq)]
 pub enum Command {
     Place {
         slot: u8,

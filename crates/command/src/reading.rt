@@ -1,6 +1,6 @@
 // Reads one command.
 ghost use Rattle.std.specs.Prelude.{◌≡◌};
-ghost use Rattle.command.specs.Bytes.{shown, parsed, taking, place, lift, lower, enter, strike, extremes, bending, shear};
+ghost use Rattle.command.specs.Bytes.{shown, parsed, Splits, taking, place, lift, lower, enter, strike, extremes, bending, shear};
 
 use crate::commands::Command;
 use faults::ReadFault;
@@ -24,35 +24,25 @@ pub fn read(bytes: &[u8]) -> Result<(Command, &[u8]), ReadFault>
     }
 }
 
+// The operands, N bytes, and the bytes after them.
+fn split<const N: usize>(operands: &[u8]) -> Result<(&[u8; N], &[u8]), ReadFault>
+    ensures { Splits N operands.now result }
+{
+    operands.split_first_chunk().ok_or(ReadFault::CutShort)
+}
+
 fn read_place(operands: &[u8]) -> Result<(Command, &[u8]), ReadFault>
     ensures { shown result ≡ taking 12 operands.now (place operands.now) }
 {
-    let [
-        slot,
-        role,
-        t1,
-        t0,
-        b1,
-        b0,
-        h1,
-        h0,
-        f3,
-        f2,
-        f1,
-        f0,
-        rest @ ..,
-    ] = operands
-    else {
-        return Err(ReadFault::CutShort);
-    };
-    let top = u16::from_be_bytes([*t1, *t0]);
-    let breadth = u16::from_be_bytes([*b1, *b0]);
-    let height = u16::from_be_bytes([*h1, *h0]);
-    let fy = u32::from_be_bytes([*f3, *f2, *f1, *f0]);
+    let (&[slot, role, t1, t0, b1, b0, h1, h0, f3, f2, f1, f0], rest) = split::<12>(operands)?;
+    let top = u16::from_be_bytes([t1, t0]);
+    let breadth = u16::from_be_bytes([b1, b0]);
+    let height = u16::from_be_bytes([h1, h0]);
+    let fy = u32::from_be_bytes([f3, f2, f1, f0]);
     Ok((
         Command::Place {
-            slot: *slot,
-            role: *role,
+            slot,
+            role,
             top,
             breadth,
             height,
@@ -62,37 +52,32 @@ fn read_place(operands: &[u8]) -> Result<(Command, &[u8]), ReadFault>
     ))
 }
 
+// As `read_strike` but for the case; a function of both would be handed the case for two lines.
 fn read_lift(operands: &[u8]) -> Result<(Command, &[u8]), ReadFault>
     ensures { shown result ≡ taking 1 operands.now (lift operands.now) }
 {
-    let [slot, rest @ ..] = operands else {
-        return Err(ReadFault::CutShort);
-    };
-    Ok((Command::Lift { slot: *slot }, rest))
+    let (&[slot], rest) = split::<1>(operands)?;
+    Ok((Command::Lift { slot }, rest))
 }
 
 fn read_lower(operands: &[u8]) -> Result<(Command, &[u8]), ReadFault>
     ensures { shown result ≡ taking 2 operands.now (lower operands.now) }
 {
-    let [n1, n0, rest @ ..] = operands else {
-        return Err(ReadFault::CutShort);
-    };
-    let levels = u16::from_be_bytes([*n1, *n0]);
+    let (&[n1, n0], rest) = split::<2>(operands)?;
+    let levels = u16::from_be_bytes([n1, n0]);
     Ok((Command::Lower { levels }, rest))
 }
 
 fn read_enter(operands: &[u8]) -> Result<(Command, &[u8]), ReadFault>
     ensures { shown result ≡ taking 7 operands.now (enter operands.now) }
 {
-    let [slot, load, effect, s3, s2, s1, s0, rest @ ..] = operands else {
-        return Err(ReadFault::CutShort);
-    };
-    let sixteenths = i32::from_be_bytes([*s3, *s2, *s1, *s0]);
+    let (&[slot, load, effect, s3, s2, s1, s0], rest) = split::<7>(operands)?;
+    let sixteenths = i32::from_be_bytes([s3, s2, s1, s0]);
     Ok((
         Command::Enter {
-            slot: *slot,
-            load: *load,
-            effect: *effect,
+            slot,
+            load,
+            effect,
             sixteenths,
         },
         rest,
@@ -102,40 +87,28 @@ fn read_enter(operands: &[u8]) -> Result<(Command, &[u8]), ReadFault>
 fn read_strike(operands: &[u8]) -> Result<(Command, &[u8]), ReadFault>
     ensures { shown result ≡ taking 1 operands.now (strike operands.now) }
 {
-    let [slot, rest @ ..] = operands else {
-        return Err(ReadFault::CutShort);
-    };
-    Ok((Command::Strike { slot: *slot }, rest))
+    let (&[slot], rest) = split::<1>(operands)?;
+    Ok((Command::Strike { slot }, rest))
 }
 
 fn read_extremes(operands: &[u8]) -> Result<(Command, &[u8]), ReadFault>
     ensures { shown result ≡ taking 2 operands.now (extremes operands.now) }
 {
-    let [state, effect, rest @ ..] = operands else {
-        return Err(ReadFault::CutShort);
-    };
-    Ok((
-        Command::Extremes {
-            state: *state,
-            effect: *effect,
-        },
-        rest,
-    ))
+    let (&[state, effect], rest) = split::<2>(operands)?;
+    Ok((Command::Extremes { state, effect }, rest))
 }
 
 fn read_bending(operands: &[u8]) -> Result<(Command, &[u8]), ReadFault>
     ensures { shown result ≡ taking 9 operands.now (bending operands.now) }
 {
-    let [state, t1, t0, b1, b0, h1, h0, f1, f0, rest @ ..] = operands else {
-        return Err(ReadFault::CutShort);
-    };
-    let top = u16::from_be_bytes([*t1, *t0]);
-    let breadth = u16::from_be_bytes([*b1, *b0]);
-    let height = u16::from_be_bytes([*h1, *h0]);
-    let fc = u16::from_be_bytes([*f1, *f0]);
+    let (&[state, t1, t0, b1, b0, h1, h0, f1, f0], rest) = split::<9>(operands)?;
+    let top = u16::from_be_bytes([t1, t0]);
+    let breadth = u16::from_be_bytes([b1, b0]);
+    let height = u16::from_be_bytes([h1, h0]);
+    let fc = u16::from_be_bytes([f1, f0]);
     Ok((
         Command::Bending {
-            state: *state,
+            state,
             top,
             breadth,
             height,
@@ -148,15 +121,7 @@ fn read_bending(operands: &[u8]) -> Result<(Command, &[u8]), ReadFault>
 fn read_shear(operands: &[u8]) -> Result<(Command, &[u8]), ReadFault>
     ensures { shown result ≡ taking 3 operands.now (shear operands.now) }
 {
-    let [state, d1, d0, rest @ ..] = operands else {
-        return Err(ReadFault::CutShort);
-    };
-    let spacing = u16::from_be_bytes([*d1, *d0]);
-    Ok((
-        Command::Shear {
-            state: *state,
-            spacing,
-        },
-        rest,
-    ))
+    let (&[state, d1, d0], rest) = split::<3>(operands)?;
+    let spacing = u16::from_be_bytes([d1, d0]);
+    Ok((Command::Shear { state, spacing }, rest))
 }

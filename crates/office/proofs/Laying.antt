@@ -1,14 +1,14 @@
 -- Lines laid one behind another in a buffer.
-use Rattle.std.proofs.Common.{◌≡◌, ℕ, ◌+◌, ◌-◌, ◌*◌, ◌<◌, ◌≤◌, ◌⊎◌, List, [], ◌++◌, length, take, drop, sym, refl, ap, ◌∙◌, subst, inl, inr, append_assoc, arith, length-append}
-use native.Mathlib.Nat.{sub-zero}
+use Rattle.std.proofs.Common.{◌≡◌, ℕ, ◌+◌, ◌*◌, ◌<◌, ◌≤◌, ◌⊎◌, List, [], ◌++◌, length, take, drop, sym, refl, ap, ◌∙◌, subst, inl, inr, append_assoc, codes, arith, length-append}
 use borrow.Rule.Slice.PartMut.{put_mid}
 use Rattle.std.proofs.lemmas.List.{take_at, drop-drop}
 use Rattle.std.proofs.lemmas.Slice.{drop-append-drop}
-use Rattle.sheet.specs.Ledger.{Ledger, blank}
-use Rattle.record.specs.declared.stepped.Stepped.{Stepped}
+use Rattle.sheet.specs.Ledger.{ledger}
+use Rattle.record.specs.declared.reading.Reading.{Reading}
 use Rattle.record.specs.Steps.{step_text}
-use Rattle.record.specs.Transcripts.{Reads}
-use Rattle.record.proofs.Following.{forward, Taken, front, fits, Begun, begun_more, whole}
+use Rattle.record.specs.Readings.{Starts, ReadsLine}
+use Rattle.record.proofs.Following.{front, fits, long, too_long_line}
+use Rattle.record.proofs.Readings.{SoFar, so_far_none, so_far_more, so_far_all}
 use Rattle.office.specs.Filling.{Puts, Adds, Lays, RunsThrough}
 use Rattle.office.proofs.TwoBytes.{two_on}
 
@@ -18,43 +18,40 @@ put_fits xs line ys a k is long h = record {
   fails = λ less. absurd (let z : ⊥ = omega arith in z);
 }
 
-pub adds : {L : Ledger} {bytes : List ℕ} {place : ℕ} {buffer : List ℕ} {M : Ledger} {s : Stepped} {line : List ℕ} (before : List ℕ) (n : ℕ) (after : List ℕ) →
-    Taken L bytes place buffer M s line → length line ≡ length buffer → length buffer ≤ 64 → Puts before n (take (s.written - 0) line) after → Adds L bytes place before n M (s.place, n + s.written) after
-adds {L} {bytes} {place} {buffer} {M} {s} {line} before n after t same small p =
-    let text = step_text place t.outcome in
-    let is : take (s.written - 0) line ≡ text = ap (λ (k : ℕ). take k line) (sub-zero s.written) ∙ front t.wrote in
-    let q = subst (λ (x : List ℕ). Puts before n x after) is p in
-    let w = t.wrote.len in
-    let f = fits t.wrote same in
-    let e : n + length text ≡ n + s.written = omega arith in
+pub adds : {r s : Reading} {buffer line : List ℕ} {w : ℕ} (before : List ℕ) (n : ℕ) (after : List ℕ) →
+    ReadsLine r buffer w s line → length line ≤ 64 → Puts before n (take w line) after → Adds (ledger r.sheet) r.bytes.now r.place before n (ledger s.sheet) (s.place, n + w) after
+adds {r} {s} {buffer} {line} {w} before n after l small p =
+    let text = step_text r.place l.outcome in
+    let q = subst (λ (x : List ℕ). Puts before n x after) (front l.wrote) p in
+    let k = l.wrote.len in
+    let f = fits l.wrote in
+    let e : n + length text ≡ n + w = omega arith in
     record {
-      outcome = t.outcome;
-      advances = t.advances;
+      outcome = l.outcome;
+      advances = l.advances;
       short = omega arith;
       len = sym e;
       buffer = λ h. q.fits (omega arith) ∙ ap (λ (k : ℕ). take n before ++ (text ++ drop k before)) e;
     }
 
 -- the lines so far, and how many bytes they can have
-pub record Going (bytes before : List ℕ) (L : Ledger) (place n : ℕ) (out : List ℕ) : Type 0 where
-  pub within : place ≤ length bytes
+pub record Going (bytes before : List ℕ) (r : Reading) (n : ℕ) (out : List ℕ) : Type 0 where
   pub lines : List ℕ
-  pub begun : Begun bytes L place lines
+  pub far : SoFar bytes r lines
   pub lays : Lays lines before n out
-  pub inside : place < length bytes → n ≤ 32 * place
+  pub inside : r.place < length bytes → n ≤ 32 * r.place
   pub most : n ≤ 32 * (length bytes + 1)
 
-pub going_none : (bytes before : List ℕ) (L : Ledger) → L ≡ blank → Going bytes before L 0 0 before
-going_none bytes before L e = record {
-  within = omega arith;
+pub going_none : {bytes : List ℕ} {r : Reading} (before : List ℕ) → Starts bytes r → Going bytes before r 0 before
+going_none {bytes} {r} before s = record {
   lines = [];
-  begun = λ text r. subst (λ (K : Ledger). Reads bytes K 0 text) e r;
+  far = so_far_none s refl;
   lays = record { len = refl; buffer = λ _. refl };
   inside = λ _. omega arith;
   most = omega arith;
 }
 
-module _ (bytes before : List ℕ) (L : Ledger) (place n : ℕ) (out : List ℕ) (g : Going bytes before L place n out) where
+module _ {bytes before : List ℕ} {r : Reading} {n : ℕ} {out : List ℕ} (g : Going bytes before r n out) where
   lays_more : (line after : List ℕ) (m : ℕ) → length out ≡ length before → m ≡ n + length line → (m ≤ length out → after ≡ take n out ++ (line ++ drop m out)) → Lays (g.lines ++ line) before m after
   lays_more line after m same is put =
       let k = g.lays.len in record {
@@ -66,29 +63,42 @@ module _ (bytes before : List ℕ) (L : Ledger) (place n : ℕ) (out : List ℕ)
             put (omega arith) ∙ (λ i. head i ++ (line ++ tail i)) ∙ sym (append_assoc g.lines line (drop m before));
       }
 
-  pub going_more : place < length bytes → length out ≡ length before → (M : Ledger) (r : ℕ × ℕ) (after : List ℕ) → Adds L bytes place out n M r after → Going bytes before M r.0 r.1 after
-  going_more h same M r after a =
-      let f = forward L bytes place M r.0 a.outcome h a.advances in
+  pub going_more : {s : Reading} {buffer line : List ℕ} {w : ℕ} (after : List ℕ) → length out ≡ length before → ReadsLine r buffer w s line → length line ≤ 64 → Puts out n (take w line) after →
+      Going bytes before s (n + w) after
+  unfolding adds
+  going_more {s} {buffer} {line} {w} after same l small p =
+      let a = adds out n after l small p in
       let b = a.len in
-      let s = a.short in
-      let i = g.inside h in
+      let d = a.short in
+      let h = l.inside in
+      let e = ap length g.far.reads in
+      let i = g.inside (omega arith) in
       record {
-        within = f.1;
-        lines = g.lines ++ step_text place a.outcome;
-        begun = begun_more bytes L place g.lines g.begun M r.0 (g.lines ++ step_text place a.outcome) h (record { outcome = a.outcome; advances = a.advances; lines = refl });
-        lays = lays_more (step_text place a.outcome) after r.1 same b a.buffer;
-        inside = λ less. go less (two_on L bytes place M r.0 a.outcome h a.advances);
+        lines = g.lines ++ step_text r.place l.outcome;
+        far = so_far_more g.far l refl;
+        lays = lays_more (step_text r.place l.outcome) after (n + w) same b a.buffer;
+        inside = λ less. go less (two_on (ledger r.sheet) r.bytes.now r.place (ledger s.sheet) s.place l.outcome h l.advances);
         most = omega arith;
       }
     where
-      go : r.0 < length bytes → (place + 2 ≤ r.0) ⊎ (r.0 ≡ length bytes) → r.1 ≤ 32 * r.0
-      go less (inl on) = let b = a.len in let s = a.short in let i = g.inside h in omega arith
-      go less (inr end) = absurd (let z : ⊥ = omega arith in z)
+      go : s.place < length bytes → (r.place + 2 ≤ s.place) ⊎ (s.place ≡ length r.bytes.now) → n + w ≤ 32 * s.place
+      go less (inl on) =
+          let a = adds out n after l small p in
+          let b = a.len in
+          let d = a.short in
+          let h = l.inside in
+          let e = ap length g.far.reads in
+          let i = g.inside (omega arith) in omega arith
+      go less (inr end) = let e = ap length g.far.reads in absurd (let z : ⊥ = omega arith in z)
 
-  pub through : length bytes ≤ 65536 → length bytes ≤ place → RunsThrough bytes before n out
-  through few end = let w = g.within in let e : place ≡ length bytes = omega arith in record {
-    text = g.lines;
-    transcript = whole bytes L place g.lines g.begun few e;
-    lays = g.lays;
-    most = g.most;
-  }
+  pub through : r.place ≡ length r.bytes.now → RunsThrough bytes before n out
+  through end = record { text = g.lines; transcript = so_far_all g.far end; lays = g.lays; most = g.most }
+
+-- a record over 65,536 bytes
+pub too_long : (bytes before after : List ℕ) → 65536 < length bytes → Puts before 0 (codes "fault at 0 record 20\n") after → RunsThrough bytes before 21 after
+too_long bytes before after h p = record {
+  text = codes "fault at 0 record 20\n";
+  transcript = long bytes (codes "fault at 0 record 20\n") h (sym too_long_line);
+  lays = record { len = refl; buffer = λ room. p.fits room };
+  most = omega arith;
+}

@@ -18,7 +18,8 @@ use Rattle.questions.proofs.Choices.{extremes_only}
 use Rattle.command.specs.declared.commands.Command.{Command}
 use Rattle.command.specs.declared.commands.Command.TheVariants.{Place, Lift, Lower, Enter, Strike, Extremes, Bending, Shear}
 use Rattle.record.specs.Lines.{extremes_line, bending_line, shear_line}
-use Rattle.record.specs.Codes.{load_type, effect_kind, spacing_of}
+use Rattle.loads.specs.Codes.{load_type, effect_kind}
+use Rattle.record.specs.Codes.{spacing_of}
 use Rattle.record.specs.Runs.{Outcome, Refused, Enters, TellsExtremes, AsksExtremes, StateLast, slab_pushes, slab_pulls, TellsBending, TellsShear, Runs}
 use Rattle.office.proofs.OneResistance as bending
 use Rattle.office.proofs.OneResistance.{ok_not_err}
@@ -45,8 +46,8 @@ one_tells_extremes : (L : Ledger) (n : ℕ) (k : EffectKind) (M N : Ledger) (o p
 one_tells_extremes L n k M N (Ok t) (Ok u) x y =
     let a = x.3 in
     let b = y.3 in
-    let e = extremes_only (get_or states (n - 1) []) k L.rows b.0 b.1 a.0 a.1 b.2 a.2 in
-    (x.2 ∙ sym y.2, ap Ok (a.3 ∙ (λ i. extremes_line (e.0 i) (e.1 i)) ∙ sym b.3))
+    let e = extremes_only (get_or states (n - 1) []) k L.rows b.0 a.0 b.1 a.1 in
+    (x.2 ∙ sym y.2, ap Ok (a.2 ∙ (λ i. extremes_line (e i).low (e i).high) ∙ sym b.2))
 one_tells_extremes L n k M N (Ok t) (Err f) x y = absurd (known_or_not n x.0 x.1 y.0)
 one_tells_extremes L n k M N (Err f) (Ok u) x y = absurd (known_or_not n y.0 y.1 x.0)
 one_tells_extremes L n k M N (Err f) (Err g) x y = (x.2 ∙ sym y.2, ap Err (x.1 ∙ sym y.1))

@@ -5,6 +5,7 @@ use Rattle.faults.specs.declared.question.QuestionFault.{QuestionFault}
 use Rattle.faults.specs.declared.question.QuestionFault.TheVariants.{NoMoment, PlateMissing, SpacingLimits, StudLimits, UnlawfulFactors, UnknownState}
 use Rattle.section.specs.declared.sense.Sense.TheVariants.{Sagging}
 use Rattle.section.specs.Parts.{IsDepth}
+use Rattle.section.specs.declared.axis.Axis.{Axis}
 use Rattle.section.specs.Axis.{IsAxis, LacksMoment}
 use Rattle.section.proofs.Unique.{axis_unique, answer_unique}
 use Rattle.sheet.specs.declared.row.Row.{Row}
@@ -37,15 +38,15 @@ module _ (L : Ledger) (p q : ℕ → ℕ) where
       let t : x.top ≡ y.top = one_content _ _ x.is_top y.is_top in
       let w : x.web ≡ y.web = one_content _ _ x.is_web y.is_web in
       let b : x.bottom ≡ y.bottom = one_content _ _ x.is_bottom y.is_bottom in
-      let level : r.level ≡ s.level = x.level ∙ (λ i. (a i).0) ∙ sym y.level in
-      let mp : r.mp ≡ s.mp = x.mp ∙ (λ i. plastic_moment (a i).1) ∙ sym y.mp in
-      let mn : r.mn ≡ s.mn = x.mn ∙ (λ i. nominal_moment (plastic_moment (a i).1) (a i).0 (max (d i) (e i))) ∙ sym y.mn in
-      let compact : r.compact ≡ s.compact = x.compact ∙ (λ i. not (not_compact (t i) (w i) (b i) (a i).0)) ∙ sym y.compact in
-      let ductile : r.ductile ≡ s.ductile = x.ductile ∙ (λ i. not (brittle (a i).0 (max (d i) (e i)))) ∙ sym y.ductile in
+      let level : r.level ≡ s.level = x.level ∙ (λ i. (a i).level) ∙ sym y.level in
+      let mp : r.mp ≡ s.mp = x.mp ∙ (λ i. plastic_moment (a i).moment) ∙ sym y.mp in
+      let mn : r.mn ≡ s.mn = x.mn ∙ (λ i. nominal_moment (plastic_moment (a i).moment) (a i).level (max (d i) (e i))) ∙ sym y.mn in
+      let compact : r.compact ≡ s.compact = x.compact ∙ (λ i. not (not_compact (t i) (w i) (b i) (a i).level)) ∙ sym y.compact in
+      let ductile : r.ductile ≡ s.ductile = x.ductile ∙ (λ i. not (brittle (a i).level (max (d i) (e i)))) ∙ sym y.ductile in
       λ i. record { level = level i; mp = mp i; mn = mn i; compact = compact i; ductile = ductile i }
 
   Stands : Type 0
-  Stands = (axis : ℕ × ℕ × ℕ) × IsAxis Sagging (with_plates L p) (with_plates L q) axis × (0 < axis.1)
+  Stands = (axis : Axis) × IsAxis Sagging (with_plates L p) (with_plates L q) axis × (0 < axis.moment)
 
   moment_or_none : Stands → LacksMoment Sagging (with_plates L p) (with_plates L q) → ⊥
   unfolding Stands

@@ -1,6 +1,6 @@
 -- A command has at least two bytes, so a step from inside the record goes two bytes on or to its end.
-use Rattle.std.proofs.Common.{◌≡◌, ℕ, ◌+◌, ◌<◌, ◌≤◌, Bool, true, false, cond, eqb, ltb, ◌⊎◌, List, [], ◌∷◌, length, drop, Ok, Err, MatchBool, Result, sym, refl, subst, inl, inr, arith, length-drop, ltb-false, le-ltb, ne_eqb}
-use borrow.Author.Tests.{clash}
+use Rattle.std.proofs.Common.{◌≡◌, ℕ, ◌+◌, ◌<◌, ◌≤◌, Bool, true, false, cond, eqb, ltb, ◌⊎◌, List, [], ◌∷◌, length, drop, Ok, Err, Result, sym, refl, subst, inl, inr, arith, length-drop, ltb-false, le-ltb, ne_eqb}
+use Rattle.std.proofs.lemmas.Bool.{MatchBool-at_false}
 use Rattle.faults.specs.declared.reading.ReadFault.{ReadFault}
 use Rattle.faults.specs.declared.reading.ReadFault.TheVariants.{UnknownCommand, CutShort}
 use Rattle.sheet.specs.Ledger.{Ledger}
@@ -40,12 +40,8 @@ two_shorter : (bs : List ℕ) (p : Command × List ℕ) → Ok p ≡ parsed bs �
 two_shorter [] p e = let z : ◌≡◌ {A = ℕ} 0 1 = cc in absurd (omega arith)
 two_shorter (b ∷ ops) p e = let l = subst (Leaves ops) (sym e) (leaves_parsed b ops) in omega arith
 
-not_so : (b : Bool) (P Q : Type 0) → b ≡ false → MatchBool b P Q → Q
-not_so true P Q e w = absurd (clash (sym e))
-not_so false P Q e w = w
-
 pub two_on : (L : Ledger) (bytes : List ℕ) (at : ℕ) (M : Ledger) (next : ℕ) (o : Outcome) → at < length bytes → Advances L bytes at M next o → (at + 2 ≤ next) ⊎ (next ≡ length bytes)
-two_on L bytes at M next o h a = go (parsed (drop at bytes)) refl (not_so _ _ _ (le-ltb (length bytes) at (omega arith)) (not_so _ _ _ (ne_eqb at (length bytes) (omega arith)) a))
+two_on L bytes at M next o h a = go (parsed (drop at bytes)) refl (MatchBool-at_false _ _ (le-ltb (length bytes) at (omega arith)) (MatchBool-at_false _ _ (ne_eqb at (length bytes) (omega arith)) a))
   where
     go : (r : Result (Command × List ℕ) ReadFault) → r ≡ parsed (drop at bytes) → Obeys L bytes r M next o → (at + 2 ≤ next) ⊎ (next ≡ length bytes)
     go (Err f) e x = inr x.1

@@ -1,49 +1,30 @@
 // The lines of a record, one behind another in a buffer.
-ghost use Rattle.std.specs.Prelude.{◌+◌, ◌^◌, ◌<◌, ◌≤◌, length};
-ghost use Rattle.sheet.specs.Ledger.{ledger};
-ghost use Rattle.office.specs.Filling.{Puts, Adds, RunsThrough};
+ghost use Rattle.std.specs.Prelude.{◌+◌, ◌^◌, ◌<◌, length};
+ghost use Rattle.office.specs.Filling.{Puts, RunsThrough};
 
-use record::step;
-use sheet::Sheet;
+use record::{Reading, TOO_LONG_LINE};
 
 // Runs a record's commands on a new sheet, counts the bytes of their lines, and writes each line
-// that fits.
+// that fits; of a record over 65,536 bytes its fault line alone.
 pub(crate) fn fill(bytes: &[u8], out: &mut [u8]) -> usize
-    requires { length bytes.now ≤ 65536 }
     ensures { RunsThrough bytes.now out.old result out.new }
 {
-    let mut sheet = Sheet::new();
-    let mut place = 0;
+    let Ok(mut reading) = Reading::new(bytes) else {
+        put(out, 0, TOO_LONG_LINE);
+        return TOO_LONG_LINE.len();
+    };
+    let mut line = [0; 64];
+    // the buffer is C's and may be too short, so the count of bytes stands beside it
     let mut n = 0;
-    while place < bytes.len() {
-        let (next, end) = step_more(&mut sheet, bytes, place, out, n);
-        place = next;
-        n = end;
+    while let Some(written) = reading.next_line(&mut line) {
+        put(out, n, &line[..written]);
+        n += written;
     }
     n
 }
 
-// One step, its line behind the n bytes before it; the next place, and the bytes then.
-fn step_more(
-    sheet: &mut Sheet,
-    bytes: &[u8],
-    place: usize,
-    out: &mut [u8],
-    n: usize,
-) -> (usize, usize)
-    requires few { length bytes.now ≤ 65536 }
-    requires room { n ≤ 2 ^ 32 }
-    ensures { Adds (ledger sheet.old) bytes.now place out.old n (ledger sheet.new) result out.new }
-{
-    let mut line = [0; 64];
-    let stepped = step(sheet, bytes, place, &mut line);
-    let written = stepped.written;
-    put(out, n, &line[0..written]);
-    (stepped.place, n + written)
-}
-
 // Writes a line to a place of the buffer, where it fits.
-pub(crate) fn put(out: &mut [u8], at: usize, line: &[u8])
+fn put(out: &mut [u8], at: usize, line: &[u8])
     requires { at + length line.now < 2 ^ 64 }
     ensures { Puts out.old at line.now out.new }
 {

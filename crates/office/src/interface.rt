@@ -1,7 +1,7 @@
 // What C calls.
 ghost use Rattle.office.specs.Filling.{Fills};
 
-use crate::filling::{fill, put};
+use crate::filling::fill;
 
 // Returns the length of the record's transcript, and writes it to the front of the buffer where it
 // fits; where it does not, the buffer is left as it is.
@@ -9,13 +9,8 @@ use crate::filling::{fill, put};
 pub extern "C" fn mosvitar_transcript(bytes: &[u8], out: &mut [u8]) -> usize
     ensures { Fills bytes.now out.old result out.new }
 {
-    if bytes.len() > 65_536 {
-        let line = b"fault at 0 record 20\n";
-        put(out, 0, line);
-        return line.len();
-    }
-    // a buffer that may be too short is not written before the lines have been measured
-    if out.len() < 32 * (bytes.len() + 1) {
+    // a buffer under 32 × (the record's length + 1) bytes may be too short, and is not written before the lines have been measured
+    if out.len() / 32 <= bytes.len() {
         let n = fill(bytes, &mut []);
         if n > out.len() {
             return n;

@@ -1,6 +1,6 @@
 -- One step more of a transcript.
-use Rattle.std.proofs.Common.{◌≡◌, ℕ, ◌<◌, ◌≤◌, Bool, true, false, List, [], ◌++◌, length, take, drop, Ok, Err, codes, MatchBool, Result, sym, refl, ap, ◌∙◌, subst, append_assoc, arith, length-append, length-drop, le-ltb, lt-ltb, ne_eqb}
-use borrow.Author.Tests.{clash}
+use Rattle.std.proofs.Common.{◌≡◌, ℕ, ◌<◌, ◌≤◌, List, [], ◌++◌, length, take, drop, Ok, Err, codes, MatchBool, Result, sym, refl, ap, ◌∙◌, subst, append_assoc, arith, length-append, length-drop, le-ltb, lt-ltb, ne_eqb}
+use Rattle.std.proofs.lemmas.Bool.{MatchBool-at_false}
 use Rattle.std.proofs.lemmas.Fmt.{decimal_digit, decimal_step}
 use Rattle.std.proofs.lemmas.List.{take_at, append-nil}
 use Rattle.faults.specs.declared.reading.ReadFault.{ReadFault}
@@ -10,19 +10,14 @@ use Rattle.sheet.specs.Ledger.{Ledger, blank}
 use Rattle.command.specs.declared.commands.Command.{Command}
 use Rattle.command.specs.Bytes.{parsed}
 use Rattle.command.proofs.Shorter.{shorter}
-use Rattle.record.specs.declared.stepped.Stepped.{Stepped}
 use Rattle.record.specs.Lines.{fault_line, Wrote}
 use Rattle.record.specs.Runs.{Outcome}
-use Rattle.record.specs.Steps.{Obeys, Advances, step_text, Report, MakesStep}
+use Rattle.record.specs.Steps.{Obeys, Advances, step_text}
 use Rattle.record.specs.Transcripts.{Follows, Reads, ended, stepped, Transcript}
-
-not_so : (b : Bool) (P Q : Type 0) → b ≡ false → MatchBool b P Q → Q
-not_so true P Q e w = absurd (clash (sym e))
-not_so false P Q e w = w
 
 -- from inside the record a step goes forward, and not past the end
 pub forward : (L : Ledger) (bytes : List ℕ) (place : ℕ) (M : Ledger) (next : ℕ) (o : Outcome) → place < length bytes → Advances L bytes place M next o → (place < next) × (next ≤ length bytes)
-forward L bytes place M next o h a = go (parsed (drop place bytes)) refl (not_so _ _ _ (le-ltb (length bytes) place (omega arith)) (not_so _ _ _ (ne_eqb place (length bytes) (omega arith)) a))
+forward L bytes place M next o h a = go (parsed (drop place bytes)) refl (MatchBool-at_false _ _ (le-ltb (length bytes) place (omega arith)) (MatchBool-at_false _ _ (ne_eqb place (length bytes) (omega arith)) a))
   where
     go : (r : Result (Command × List ℕ) ReadFault) → r ≡ parsed (drop place bytes) → Obeys L bytes r M next o → (place < next) × (next ≤ length bytes)
     go (Err f) e x = let n = x.1 in (omega arith, omega arith)
@@ -32,37 +27,15 @@ forward L bytes place M next o h a = go (parsed (drop place bytes)) refl (not_so
         let l = length-drop place bytes in
         (omega arith, omega arith)
 
--- the outcome of a step with a long enough buffer on a record that is not too long
-pub record Taken (L : Ledger) (bytes : List ℕ) (place : ℕ) (before : List ℕ) (M : Ledger) (s : Stepped) (after : List ℕ) : Type 0 where
-  pub outcome : Outcome
-  pub advances : Advances L bytes place M s.place outcome
-  pub wrote : Wrote (step_text place outcome) before s.written after
-
-pub taken : {L : Ledger} {bytes : List ℕ} {place : ℕ} {before : List ℕ} {M : Ledger} {s : Stepped} {after : List ℕ} → length bytes ≤ 65536 → 64 ≤ length before → MakesStep L bytes place before M s after → Taken L bytes place before M s after
-taken {L} {bytes} {place} {before} {M} {s} {after} few room m =
-    let g = not_so _ _ _ (le-ltb (length before) 64 room) (not_so _ _ _ (le-ltb 65536 (length bytes) few) m.steps) in
-    record {
-      outcome = g.1;
-      advances = subst (λ n. Advances L bytes place M n g.1) (sym (m.place ∙ ap (λ (r : Report). r.next) g.3)) g.2;
-      wrote = subst (λ t. Wrote t before s.written after) (ap (λ (r : Report). r.text) g.3) m.wrote;
-    }
-
 -- the line is the front of the buffer
 pub front : {text before after : List ℕ} {n : ℕ} → Wrote text before n after → take n after ≡ text
 front {text} {before} {after} {n} w = ap (take n) w.after ∙ take_at text (drop n before) n (sym w.len)
 
-pub fits : {text before after : List ℕ} {n : ℕ} → Wrote text before n after → length after ≡ length before → n ≤ length after
-fits {text} {before} {after} {n} w e =
+pub fits : {text before after : List ℕ} {n : ℕ} → Wrote text before n after → n ≤ length after
+fits {text} {before} {after} {n} w =
     let a = ap length w.after ∙ length-append text (drop n before) in
     let l = w.len in
     omega arith
-
-pub follows : {L : Ledger} {bytes : List ℕ} {place : ℕ} {buffer : List ℕ} {M : Ledger} {s : Stepped} {line before after : List ℕ} → Taken L bytes place buffer M s line → after ≡ before ++ take s.written line → Follows L bytes place before M s.place after
-follows {before = before} t e = record {
-  outcome = t.outcome;
-  advances = t.advances;
-  lines = e ∙ ap (λ x. before ++ x) (front t.wrote);
-}
 
 pub too_long_line : fault_line 0 (Reading TooLong) ≡ codes "fault at 0 record 20\n"
 too_long_line = rw (decimal_digit 0 (omega arith), decimal_step 20 (omega arith) (omega arith), decimal_digit 2 (omega arith)) refl

@@ -2,3 +2,4 @@ mod Writing
 mod Outcomes
 mod StepTests
 pub mod Following
+pub mod Readings

@@ -1,5 +1,6 @@
 -- The tests of a step, in their order.
-use Rattle.std.proofs.Common.{◌≡◌, ℕ, ◌-◌, ◌<◌, ◌≤◌, Bool, true, false, List, [], length, take, drop, None, Ok, Err, MatchBool, Result, sym, refl, ap, ◌∙◌, subst, le_refl, arith, le-ltb, lt-ltb, eq-eqb, ne_eqb}
+use Rattle.std.proofs.Common.{◌≡◌, ℕ, ◌-◌, ◌<◌, ◌≤◌, Bool, true, false, List, [], ◌++◌, length, take, drop, None, Ok, Err, MatchBool, Result, sym, refl, ap, ◌∙◌, subst, append_assoc, le_refl, arith, length-append, length-take-le, take-append-drop, le-ltb, lt-ltb, eq-eqb, ne_eqb}
+use Rattle.std.proofs.lemmas.List.{drop-append-le}
 use Rattle.std.proofs.lemmas.Slice.{between_to_end}
 use Rattle.faults.specs.declared.reading.ReadFault.{ReadFault}
 use Rattle.faults.specs.declared.reading.ReadFault.TheVariants.{CutShort, ShortBuffer, TooLong}
@@ -11,7 +12,7 @@ use Rattle.command.specs.Bytes.{parsed}
 use Rattle.record.specs.declared.stepped.Stepped.{Stepped}
 use Rattle.record.specs.Lines.{fault_line, Wrote}
 use Rattle.record.specs.Runs.{Outcome, Runs, Delivers}
-use Rattle.record.specs.Steps.{Obeys, Advances, halted, report_of, fault_at, Steps, MakesStep}
+use Rattle.record.specs.Steps.{Obeys, Advances, halted, report_of, fault_at, GoesOn, Steps, MakesStep}
 
 yes : (b : Bool) (P Q : Type 0) → b ≡ true → P → MatchBool b P Q
 yes true P Q e p = p
@@ -66,27 +67,47 @@ module _ (L : Ledger) (bytes : List ℕ) (place : ℕ) (before : List ℕ) (s : 
   short_buffer l h e = stays ShortBuffer (no _ _ _ (le-ltb 65536 (length bytes) l) (yes _ _ _ (lt-ltb (length before) 64 h) (refl, refl))) e
 
 -- a step that goes on
-module _ (L : Ledger) (bytes : List ℕ) (place : ℕ) (before : List ℕ) (few : length bytes ≤ 65536) (room : 64 ≤ length before) (M : Ledger) (next : ℕ) where
-  goes : (o : Outcome) → Advances L bytes place M next o → Steps L bytes place (length before) M (report_of place next o)
-  goes o a = no _ _ _ (le-ltb 65536 (length bytes) few) (no _ _ _ (le-ltb (length before) 64 room) (next, o, a, refl))
-
-  pub wrote_line : (n : ℕ) (after : List ℕ) → Delivers (Advances L bytes place M next) before (Ok n) after → MakesStep L bytes place before M (record { place = next; written = n; fault = None }) after
+module _ (L : Ledger) (bytes : List ℕ) (place : ℕ) (before : List ℕ) (M : Ledger) (next : ℕ) where
+  pub wrote_line : (n : ℕ) (after : List ℕ) → Delivers (Advances L bytes place M next) before (Ok n) after → GoesOn L bytes place before M (record { place = next; written = n; fault = None }) after
   wrote_line n after x = go x.outcome x.holds x.returns
     where
-      go : (o : Outcome) → Advances L bytes place M next o → Rattle.record.specs.Runs.Returns before o (Ok n) after → MakesStep L bytes place before M (record { place = next; written = n; fault = None }) after
-      go (Ok text) a w = record { report = report_of place next (Ok text); steps = goes (Ok text) a; place = refl; wrote = w; fault = refl }
+      go : (o : Outcome) → Advances L bytes place M next o → Rattle.record.specs.Runs.Returns before o (Ok n) after → GoesOn L bytes place before M (record { place = next; written = n; fault = None }) after
+      go (Ok text) a w = record { outcome = Ok text; advances = a; wrote = w; fault = refl }
       go (Err f) a w = absurd w
 
   pub wrote_fault : (f : RecordFault) (middle : List ℕ) (n : ℕ) (after : List ℕ) → Delivers (Advances L bytes place M next) before (Err f) middle → Wrote (fault_line place f) middle n after →
-      MakesStep L bytes place before M (record { place = next; written = n; fault = fault_at place f }) after
+      GoesOn L bytes place before M (record { place = next; written = n; fault = fault_at place f }) after
   wrote_fault f middle n after x w = go x.outcome x.holds x.returns
     where
-      go : (o : Outcome) → Advances L bytes place M next o → Rattle.record.specs.Runs.Returns before o (Err f) middle → MakesStep L bytes place before M (record { place = next; written = n; fault = fault_at place f }) after
+      go : (o : Outcome) → Advances L bytes place M next o → Rattle.record.specs.Runs.Returns before o (Err f) middle → GoesOn L bytes place before M (record { place = next; written = n; fault = fault_at place f }) after
       go (Ok text) a v = absurd v
       go (Err g) a v = record {
-        report = report_of place next (Err g);
-        steps = goes (Err g) a;
-        place = refl;
+        outcome = Err g;
+        advances = a;
         wrote = subst (λ h. Wrote (fault_line place h) before n after) v.0 (subst (λ b. Wrote (fault_line place f) b n after) v.1 w);
         fault = ap (fault_at place) v.0;
       }
+
+-- a line at the front of a buffer's first 64 bytes is at the front of the buffer, and what is behind them is untouched
+pub wrote_front : {text before front : List ℕ} {n : ℕ} → 64 ≤ length before → length front ≡ 64 → Wrote text (take 64 before) n front → Wrote text before n (front ++ drop 64 before)
+wrote_front {text} {before} {front} {n} long size w =
+    let l = w.len in
+    let a = ap length w.after ∙ length-append text (drop n (take 64 before)) in
+    let t : length (take 64 before) ≡ 64 = length-take-le 64 before long in
+    let inside : n ≤ length (take 64 before) = omega arith in
+    record {
+      len = w.len;
+      after = ap (λ (x : List ℕ). x ++ drop 64 before) w.after
+          ∙ append_assoc text (drop n (take 64 before)) (drop 64 before)
+          ∙ ap (λ (x : List ℕ). text ++ x) (sym (drop-append-le n (take 64 before) (drop 64 before) inside) ∙ ap (drop n) (take-append-drop 64 before));
+    }
+
+pub made : {L : Ledger} {bytes : List ℕ} {place : ℕ} {before : List ℕ} {M : Ledger} {s : Stepped} {front : List ℕ} → length bytes ≤ 65536 → 64 ≤ length before → length front ≡ 64 →
+    GoesOn L bytes place (take 64 before) M s front → MakesStep L bytes place before M s (front ++ drop 64 before)
+made {L} {bytes} {place} {before} {M} {s} {front} few room size g = record {
+  report = report_of place s.place g.outcome;
+  steps = no _ _ _ (le-ltb 65536 (length bytes) few) (no _ _ _ (le-ltb (length before) 64 room) (s.place, g.outcome, g.advances, refl));
+  place = refl;
+  wrote = wrote_front room size g.wrote;
+  fault = g.fault;
+}

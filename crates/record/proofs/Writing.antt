@@ -1,10 +1,8 @@
 -- One text after another, and a number's last two digits after its front.
-use Rattle.std.proofs.Common.{◌≡◌, ℕ, ◌+◌, ◌/◌, ◌%◌, ◌^◌, ◌<◌, ◌≤◌, true, List, [], ◌∷◌, ◌++◌, length, take, drop, set, ℤ, pos, negsuc, nat_abs, decimal, sym, refl, ap, ◌∙◌, subst, append_assoc, arith, length-append, take-append-drop, to_z-of_z, w64, SFits, to_z, of_z}
-use lib.Signed.{lt_z}
+use Rattle.std.proofs.Common.{◌≡◌, ℕ, ◌+◌, ◌/◌, ◌%◌, ◌^◌, ◌<◌, ◌≤◌, List, [], ◌∷◌, ◌++◌, length, take, drop, set, ℤ, decimal, sym, ap, ◌∙◌, subst, append_assoc, arith, length-append, take-append-drop, to_z-of_z, w64, SFits, to_z, of_z}
 use Rattle.std.specs.Fmt.{signed_decimal}
 use Rattle.std.proofs.lemmas.Fmt.{decimal_digit, decimal_step}
 use Rattle.std.proofs.lemmas.List.{length-set, take_more_set, drop-set-lt, drop-drop}
-use Rattle.std.proofs.lemmas.Int.{ints}
 use Rattle.record.specs.declared.line_writer.LineWriter.{LineWriter}
 use Rattle.record.specs.Writing.{Adds, written, room}
 
@@ -83,11 +81,3 @@ drop_two xs i a b =
 -- a signed parameter of 64 bits, as a call has it
 pub adds-signed : {p q : LineWriter} {z : ℤ} → SFits w64 z → Adds p (signed_decimal (to_z w64 (of_z w64 z))) q → Adds p (signed_decimal z) q
 adds-signed f a = adds_is (ap signed_decimal (to_z-of_z f)) a
-
-signed_below : (z : ℤ) → lt_z z (pos 0) ≡ true → signed_decimal z ≡ 45 ∷ decimal (nat_abs z)
-signed_below (pos n) h = absurd (grind (arith, ints))
-signed_below (negsuc n) h = refl
-
-pub adds_below : {p q r : LineWriter} (z : ℤ) (n : ℕ) → SFits w64 z → lt_z (to_z w64 (of_z w64 z)) (pos 0) ≡ true → n ≡ nat_abs (to_z w64 (of_z w64 z)) → Adds p (45 ∷ []) q → Adds q (decimal n) r → Adds p (signed_decimal z) r
-adds_below z n f h e a b =
-    adds-signed f (adds_is (ap (λ (m : ℕ). 45 ∷ decimal m) e ∙ sym (signed_below (to_z w64 (of_z w64 z)) h)) (then a b))

@@ -4,3 +4,4 @@ pub mod Codes
 pub mod Runs
 pub mod Steps
 pub mod Transcripts
+pub mod Readings

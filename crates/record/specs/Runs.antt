@@ -4,6 +4,7 @@ use Rattle.faults.specs.declared.reading.ReadFault.{ReadFault}
 use Rattle.faults.specs.declared.part.PartFault.TheVariants.{OutsideLimits}
 use Rattle.faults.specs.declared.question.QuestionFault.{QuestionFault}
 use Rattle.faults.specs.declared.question.QuestionFault.TheVariants.{NoMoment, PlateMissing, SpacingLimits, StudLimits, UnlawfulFactors, UnknownState}
+use Rattle.faults.specs.declared.sheet.SheetFault.{SheetFault}
 use Rattle.faults.specs.declared.recorded.RecordFault.{RecordFault}
 use Rattle.faults.specs.declared.recorded.RecordFault.TheVariants.{Sheet, Part, Question, Reading}
 use Rattle.loads.specs.declared.load_type.LoadType.{LoadType}
@@ -16,13 +17,15 @@ use Rattle.kinds.specs.declared.slab.Slab.{Slab}
 use Rattle.kinds.specs.Decks.{DeckFits, slab_strip, layers_strip}
 use Rattle.questions.specs.declared.answers.Verdict.{Verdict}
 use Rattle.questions.specs.declared.answers.Resistance.{Resistance}
-use Rattle.questions.specs.Extremes as asked
+use Rattle.questions.specs.declared.answers.Extremes as asked
+use Rattle.questions.specs.Extremes.{IsExtremes}
 use Rattle.questions.specs.Bending.{verdict_number, IsResistance, RefusesBending, Judges}
 use Rattle.questions.specs.Shear.{IsShearResistance, RefusesShear, JudgesShear}
 use Rattle.command.specs.declared.commands.Command.{Command}
 use Rattle.command.specs.declared.commands.Command.TheVariants.{Place, Lift, Lower, Enter, Strike, Extremes, Bending, Shear}
 use Rattle.record.specs.Lines.{extremes_line, bending_line, shear_line, Wrote}
-use Rattle.record.specs.Codes.{load_type, effect_kind, spacing_of}
+use Rattle.loads.specs.Codes.{load_type, effect_kind}
+use Rattle.record.specs.Codes.{spacing_of}
 
 -- a command's line, [] where it prints none, or its fault
 abbrev pub Outcome : Type 0
@@ -50,7 +53,7 @@ Enters L s (Ok t) (Ok k) n M o = Changes L (enter s t k (judged_sixteenths n)) M
 abbrev pub TellsExtremes : Ledger → ℕ → EffectKind → Ledger → Outcome → Type 0
 TellsExtremes L n k M (Ok text) =
     (1 ≤ n) × (n ≤ 9) × (M ≡ L)
-    × ((low : ℤ) × (high : ℤ) × asked.Extremes (slice_index_or states (n - 1) []) k L.rows low high × (text ≡ extremes_line low high))
+    × ((e : asked.Extremes) × IsExtremes (slice_index_or states (n - 1) []) k L.rows e × (text ≡ extremes_line e.low e.high))
 TellsExtremes L n k M (Err f) = ((n ≡ 0) ⊎ (9 < n)) × (f ≡ Question UnknownState) × (M ≡ L)
 
 abbrev pub AsksExtremes : Ledger → ℕ → Result EffectKind ReadFault → Ledger → Outcome → Type 0
@@ -117,11 +120,12 @@ pub record Delivers (Holds : Outcome → Type 0) (before : List ℕ) (r : Result
   pub holds : Holds outcome
   pub returns : Returns before outcome r after
 
--- a change's outcome, as its call returns it
-abbrev pub quiet : Result (Unit {0}) RecordFault → Outcome
-quiet (Ok u) = Ok []
-quiet (Err f) = Err f
-
-abbrev pub no_line : Result (Unit {0}) RecordFault → Result ℕ RecordFault
+-- a change's answer, as the length of its line, which is 0
+abbrev pub no_line : Result (Unit {0}) SheetFault → Result ℕ RecordFault
 no_line (Ok u) = Ok 0
-no_line (Err f) = Err f
+no_line (Err f) = Err (Sheet f)
+
+-- a call that writes no line, whose outcome holds of what it was asked
+abbrev pub Silently : (Outcome → Type 0) → Result ℕ RecordFault → Type 0
+Silently Holds (Ok n) = (n ≡ 0) × Holds (Ok [])
+Silently Holds (Err f) = Holds (Err f)

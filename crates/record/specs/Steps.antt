@@ -49,6 +49,13 @@ step_fault place (Err f) = fault_at place f
 abbrev pub report_of : ℕ → ℕ → Outcome → Report
 report_of place next o = record { next = next; text = step_text place o; fault = step_fault place o }
 
+-- a step that is neither refused for the record's length nor for the buffer's: the next place, the fault, and the line at the front of the buffer, the rest untouched
+pub record GoesOn (L : Ledger) (bytes : List ℕ) (from : ℕ) (before : List ℕ) (M : Ledger) (s : Stepped) (after : List ℕ) : Type 0 where
+  pub outcome : Outcome
+  pub advances : Advances L bytes from M s.place outcome
+  pub wrote : Wrote (step_text from outcome) before s.written after
+  pub fault : s.fault ≡ step_fault from outcome
+
 -- a step from a place with a line buffer of this length
 abbrev pub Steps : Ledger → List ℕ → ℕ → ℕ → Ledger → Report → Type 0
 Steps L bytes place buffer M report =

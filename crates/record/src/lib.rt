@@ -4,6 +4,7 @@
 mod codes;
 mod line_writer;
 mod lines;
+mod reading;
 mod running;
 mod stepped;
 mod stepping;
@@ -11,6 +12,7 @@ mod stepping;
 mod tests;
 mod transcripts;
 
+pub use reading::Reading;
 pub use stepped::Stepped;
 pub use stepping::step;
-pub use transcripts::transcript;
+pub use transcripts::{TOO_LONG_LINE, transcript};

@@ -1,4 +1,4 @@
-// Writes a line into a caller's buffer.
+// Writes a line into a caller's buffer. There is no heap: the memory is the caller's, and how much of it is written stands beside it.
 ghost use Rattle.std.specs.Prelude.{◌≡◌, ◌+◌, ◌/◌, ◌%◌, ◌^◌, ◌<◌, ◌≤◌, [], ◌∷◌, length, decimal};
 ghost use Rattle.std.specs.Fmt.{signed_decimal};
 ghost use Rattle.questions.specs.Bending.{verdict_number};
@@ -10,12 +10,12 @@ use questions::Verdict;
 
 #[derive(Drop)]
 pub struct LineWriter<'a> {
-    line: &'a mut [u8],
+    line: &'a mut [u8; 64],
     len: usize,
 }
 
 impl<'a> LineWriter<'a> {
-    pub(crate) fn new(line: &'a mut [u8]) -> LineWriter<'a>
+    pub(crate) fn new(line: &'a mut [u8; 64]) -> LineWriter<'a>
         ensures same { result.line.ghost_name ≡ line.entry.ghost_name }
         ensures line { result.line.now ≡ line.old }
         ensures len { result.len ≡ 0 }
@@ -24,6 +24,9 @@ impl<'a> LineWriter<'a> {
     }
 }
 
+// By hand and not as a `fmt::Write`: its `write!` may fail at each piece, which the room here rules out, and the digits go in pairs.
+// Each write goes through a slice of the array: no proof is made of a part of an array behind a field, nor is its length known there.
+// The room that each asks for is that of its own text. The clause `same` says of memory that the line is still the one that was lent, and no fact of its bytes: it stands by itself each time.
 impl LineWriter<'_> {
     pub(crate) fn len(&self) -> usize
         ensures { result ≡ self.now.len }
@@ -32,115 +35,96 @@ impl LineWriter<'_> {
     }
 
     pub(crate) fn put(&mut self, text: &[u8])
-        requires { self.old.len + length text.now ≤ length self.old.line.now }
+        requires { self.old.len + length text.now ≤ 64 }
         ensures same { self.new.line.ghost_name ≡ self.old.line.ghost_name }
         ensures adds { Adds self.old text.now self.new }
     {
         let at = self.len;
         let end = at + text.len();
-        self.line[at..end].copy_from_slice(text);
+        let line = &mut self.line[..];
+        line[at..end].copy_from_slice(text);
         self.len = end;
     }
 
-    // The digits of a number.
-    pub(crate) fn put_unsigned(&mut self, n: u64)
-        requires { self.old.len + 20 ≤ length self.old.line.now }
+    // The digits of a number, of which there are at most so many.
+    pub(crate) fn put_number<const DIGITS: usize>(&mut self, n: u64)
+        requires room { self.old.len + DIGITS ≤ 64 }
+        requires some { 0 < DIGITS }
+        requires small { n < 10 ^ DIGITS }
         ensures same { self.new.line.ghost_name ≡ self.old.line.ghost_name }
         ensures adds { Adds self.old (decimal n) self.new }
-        ensures bound { self.new.len ≤ self.old.len + 20 }
-    {
-        self.put_digits(n);
-    }
-
-    // The same of a level, of at most five digits.
-    pub(crate) fn put_level(&mut self, n: u16)
-        requires { self.old.len + 5 ≤ length self.old.line.now }
-        ensures same { self.new.line.ghost_name ≡ self.old.line.ghost_name }
-        ensures adds { Adds self.old (decimal n) self.new }
-        ensures bound { self.new.len ≤ self.old.len + 5 }
-    {
-        self.put_digits(n as u64);
-    }
-
-    // The same of a moment in pound-inches, of at most twelve digits.
-    pub(crate) fn put_moment(&mut self, n: u64)
-        requires room { self.old.len + 12 ≤ length self.old.line.now }
-        requires small { n ≤ 2 ^ 38 }
-        ensures same { self.new.line.ghost_name ≡ self.old.line.ghost_name }
-        ensures adds { Adds self.old (decimal n) self.new }
-        ensures bound { self.new.len ≤ self.old.len + 12 }
+        ensures bound { self.new.len ≤ self.old.len + DIGITS }
     {
         self.put_digits(n);
     }
 
     // The digit of a verdict.
     pub(crate) fn put_verdict(&mut self, verdict: Verdict)
-        requires { self.old.len + 1 ≤ length self.old.line.now }
+        requires { self.old.len + 1 ≤ 64 }
         ensures same { self.new.line.ghost_name ≡ self.old.line.ghost_name }
         ensures adds { Adds self.old (decimal (verdict_number verdict)) self.new }
         ensures bound { self.new.len ≤ self.old.len + 1 }
     {
-        self.put_digit(verdict.number() as u64);
+        self.put_number::<1>(u64::from(verdict.number()));
     }
 
     fn put_digits(&mut self, n: u64)
-        requires { self.old.len + length (decimal n) ≤ length self.old.line.now }
+        requires { self.old.len + length (decimal n) ≤ 64 }
         ensures same { self.new.line.ghost_name ≡ self.old.line.ghost_name }
         ensures adds { Adds self.old (decimal n) self.new }
     {
         if n < 10 {
             self.put_digit(n);
-            return;
-        }
-        if n < 100 {
+        } else if n < 100 {
             self.put_pair(n);
-            return;
+        } else {
+            self.put_digits(n / 100);
+            self.put_pair(n % 100);
         }
-        self.put_digits(n / 100);
-        self.put_pair(n % 100);
     }
 
-    // Two digits, of which the first may be 0.
+    // Two digits, of which the first may be 0. Written by index: with `put` here and below a transcript takes some 3 in 100 longer.
     fn put_pair(&mut self, pair: u64)
         requires small { pair < 100 }
-        requires within { self.old.len + 2 ≤ length self.old.line.now }
+        requires within { self.old.len + 2 ≤ 64 }
         ensures same { self.new.line.ghost_name ≡ self.old.line.ghost_name }
         ensures adds { Adds self.old ((48 + pair / 10) ∷ ((48 + pair % 10) ∷ [])) self.new }
     {
         let at = self.len;
-        self.line[at] = b'0' + (pair / 10) as u8;
-        self.line[at + 1] = b'0' + (pair % 10) as u8;
+        let line = &mut self.line[..];
+        line[at] = b'0' + (pair / 10) as u8;
+        line[at + 1] = b'0' + (pair % 10) as u8;
         self.len = at + 2;
     }
 
     fn put_digit(&mut self, digit: u64)
         requires small { digit < 10 }
-        requires within { self.old.len < length self.old.line.now }
+        requires within { self.old.len < 64 }
         ensures same { self.new.line.ghost_name ≡ self.old.line.ghost_name }
         ensures adds { Adds self.old ((48 + digit) ∷ []) self.new }
     {
         let at = self.len;
-        self.line[at] = b'0' + digit as u8;
+        let line = &mut self.line[..];
+        line[at] = b'0' + digit as u8;
         self.len = at + 1;
     }
 
     // The same of a signed number, with `-` before the digits of one below 0.
     pub(crate) fn put_signed(&mut self, n: i64)
-        requires { self.old.len + 21 ≤ length self.old.line.now }
+        requires { self.old.len + 21 ≤ 64 }
         ensures same { self.new.line.ghost_name ≡ self.old.line.ghost_name }
         ensures adds { Adds self.old (signed_decimal n) self.new }
         ensures bound { self.new.len ≤ self.old.len + 21 }
     {
         if n < 0 {
             self.put(b"-");
-            self.put_unsigned(n.unsigned_abs());
-        } else {
-            self.put_unsigned(n.unsigned_abs());
         }
+        self.put_number::<20>(n.unsigned_abs());
     }
 
+    // A layer's name as the record's lines spell it.
     pub(crate) fn put_layer(&mut self, layer: Layer)
-        requires { self.old.len + 8 ≤ length self.old.line.now }
+        requires { self.old.len + 8 ≤ 64 }
         ensures same { self.new.line.ghost_name ≡ self.old.line.ghost_name }
         ensures adds { Adds self.old (layer_name layer) self.new }
         ensures bound { self.new.len ≤ self.old.len + 8 }

@@ -1,26 +1,25 @@
 // Runs one command on a sheet.
-ghost use Rattle.std.specs.Prelude.{◌≡◌, ◌≤◌, length};
-ghost use Rattle.sheet.specs.Ledger as calls;
+ghost use Rattle.std.specs.Prelude.{◌≡◌};
 ghost use Rattle.sheet.specs.Ledger.{ledger};
-ghost use Rattle.record.specs.Codes.{load_type, effect_kind, spacing_of};
-ghost use Rattle.record.specs.Runs.{Delivers, Runs, Enters, Changes, AsksExtremes, TellsBending, TellsShear, quiet, no_line};
+ghost use Rattle.loads.specs.Codes.{load_type, effect_kind};
+ghost use Rattle.record.specs.Codes.{spacing_of};
+ghost use Rattle.record.specs.Runs.{Delivers, Silently, Runs, Enters, AsksExtremes, TellsBending, TellsShear, no_line};
 
-use crate::codes::{effect_kind, load_type, spacing_of};
+use crate::codes::spacing_of;
 use crate::lines::{write_bending, write_extremes, write_shear};
 use command::Command;
-use faults::RecordFault;
+use faults::{RecordFault, SheetFault};
 use kinds::{Deck, Slab};
-use loads::{Effect, LimitState};
+use loads::{Effect, EffectKind, LimitState, LoadType};
 use sheet::{PlateInput, Sheet};
 
 // Runs a command; its line, where it has one, goes to the front of the buffer, and its length is
-// returned, 0 for none.
+// returned: 0 of a command that writes none, so that `&line[..n]` is what was written in any case.
 pub(crate) fn run(
     sheet: &mut Sheet,
     command: Command,
-    line: &mut [u8],
+    line: &mut [u8; 64],
 ) -> Result<usize, RecordFault>
-    requires { 64 ≤ length line.old }
     ensures { Delivers (Runs (ledger sheet.old) command (ledger sheet.new)) line.old result line.new }
 {
     match command {
@@ -32,27 +31,24 @@ pub(crate) fn run(
             height,
             fy,
         } => {
-            no_line(run_place(
-                sheet,
-                slot,
-                PlateInput {
-                    role,
-                    top,
-                    breadth,
-                    height,
-                    fy,
-                },
-            ))
+            let plate = PlateInput {
+                role,
+                top,
+                breadth,
+                height,
+                fy,
+            };
+            no_line(sheet.place(slot, plate))
         }
-        Command::Lift { slot } => no_line(run_lift(sheet, slot)),
-        Command::Lower { levels } => no_line(run_lower(sheet, levels)),
+        Command::Lift { slot } => no_line(sheet.lift(slot)),
+        Command::Lower { levels } => no_line(sheet.lower(levels)),
         Command::Enter {
             slot,
             load,
             effect,
             sixteenths,
-        } => { no_line(run_enter(sheet, slot, load, effect, sixteenths)) }
-        Command::Strike { slot } => no_line(run_strike(sheet, slot)),
+        } => run_enter(sheet, slot, load, effect, sixteenths),
+        Command::Strike { slot } => no_line(sheet.strike(slot)),
         Command::Extremes { state, effect } => run_extremes(sheet, state, effect, line),
         Command::Bending {
             state,
@@ -78,32 +74,11 @@ pub(crate) fn run(
 }
 
 // A change prints nothing.
-fn no_line(res: Result<(), RecordFault>) -> Result<usize, RecordFault>
+fn no_line(res: Result<(), SheetFault>) -> Result<usize, RecordFault>
     ensures { result ≡ no_line res }
 {
     res?;
     Ok(0)
-}
-
-fn run_place(sheet: &mut Sheet, slot: u8, plate: PlateInput) -> Result<(), RecordFault>
-    ensures { Changes (ledger sheet.old) (calls.place slot plate) (ledger sheet.new) (quiet result) }
-{
-    sheet.place(slot, plate)?;
-    Ok(())
-}
-
-fn run_lift(sheet: &mut Sheet, slot: u8) -> Result<(), RecordFault>
-    ensures { Changes (ledger sheet.old) (calls.lift slot) (ledger sheet.new) (quiet result) }
-{
-    sheet.lift(slot)?;
-    Ok(())
-}
-
-fn run_lower(sheet: &mut Sheet, levels: u16) -> Result<(), RecordFault>
-    ensures { Changes (ledger sheet.old) (calls.lower levels) (ledger sheet.new) (quiet result) }
-{
-    sheet.lower(levels)?;
-    Ok(())
 }
 
 fn run_enter(
@@ -112,35 +87,35 @@ fn run_enter(
     load: u8,
     effect: u8,
     sixteenths: i32,
-) -> Result<(), RecordFault>
-    ensures { Enters (ledger sheet.old) slot (load_type load) (effect_kind effect) sixteenths (ledger sheet.new) (quiet result) }
+) -> Result<usize, RecordFault>
+    ensures { Silently (Enters (ledger sheet.old) slot (load_type load) (effect_kind effect) sixteenths (ledger sheet.new)) result }
 {
-    let load = load_type(load)?;
-    let kind = effect_kind(effect)?;
-    sheet.enter(slot, load, Effect::from_sixteenths(kind, sixteenths))?;
-    Ok(())
+    let load = LoadType::try_from(load)?;
+    let kind = EffectKind::try_from(effect)?;
+    no_line(sheet.enter(slot, load, Effect::from_sixteenths(kind, sixteenths)))
 }
 
-fn run_strike(sheet: &mut Sheet, slot: u8) -> Result<(), RecordFault>
-    ensures { Changes (ledger sheet.old) (calls.strike slot) (ledger sheet.new) (quiet result) }
-{
-    sheet.strike(slot)?;
-    Ok(())
-}
-
-fn run_extremes(sheet: &Sheet, state: u8, effect: u8, line: &mut [u8]) -> Result<usize, RecordFault>
-    requires { 64 ≤ length line.old }
+fn run_extremes(
+    sheet: &Sheet,
+    state: u8,
+    effect: u8,
+    line: &mut [u8; 64],
+) -> Result<usize, RecordFault>
     ensures { Delivers (AsksExtremes (ledger sheet.now) state (effect_kind effect) (ledger sheet.now)) line.old result line.new }
 {
-    let kind = effect_kind(effect)?;
+    let kind = EffectKind::try_from(effect)?;
     let state = LimitState::published(state)?;
-    let (low, high) = questions::extremes(sheet, &state, kind);
-    Ok(write_extremes(line, low, high))
+    let found = questions::extremes(sheet, &state, kind);
+    Ok(write_extremes(line, found))
 }
 
 // The state is looked up last, so that a fault of the section is found first.
-fn run_bending(sheet: &Sheet, state: u8, slab: Slab, line: &mut [u8]) -> Result<usize, RecordFault>
-    requires { 64 ≤ length line.old }
+fn run_bending(
+    sheet: &Sheet,
+    state: u8,
+    slab: Slab,
+    line: &mut [u8; 64],
+) -> Result<usize, RecordFault>
     ensures { Delivers (TellsBending (ledger sheet.now) state slab (ledger sheet.now)) line.old result line.new }
 {
     let mut deck = Deck::empty();
@@ -151,8 +126,12 @@ fn run_bending(sheet: &Sheet, state: u8, slab: Slab, line: &mut [u8]) -> Result<
     Ok(write_bending(line, &found, verdict))
 }
 
-fn run_shear(sheet: &Sheet, state: u8, spacing: u16, line: &mut [u8]) -> Result<usize, RecordFault>
-    requires { 64 ≤ length line.old }
+fn run_shear(
+    sheet: &Sheet,
+    state: u8,
+    spacing: u16,
+    line: &mut [u8; 64],
+) -> Result<usize, RecordFault>
     ensures { Delivers (TellsShear (ledger sheet.now) state (spacing_of spacing) (ledger sheet.now)) line.old result line.new }
 {
     let spacing = spacing_of(spacing);

@@ -1,9 +1,9 @@
 // One step of the reader.
-ghost use Rattle.std.specs.Prelude.{◌≡◌, ◌≤◌, length};
+ghost use Rattle.std.specs.Prelude.{◌≡◌, length};
 ghost use Rattle.faults.specs.declared.recorded.RecordFault.TheVariants.{Reading};
 ghost use Rattle.sheet.specs.Ledger.{ledger};
 ghost use Rattle.record.specs.Runs.{Delivers};
-ghost use Rattle.record.specs.Steps.{Advances, MakesStep, fault_at};
+ghost use Rattle.record.specs.Steps.{Advances, GoesOn, MakesStep, fault_at};
 
 use crate::lines::write_fault;
 use crate::running::run;
@@ -19,9 +19,32 @@ pub fn step(sheet: &mut Sheet, bytes: &[u8], place: usize, line: &mut [u8]) -> S
     if bytes.len() > 65_536 {
         return halted(place, ReadFault::TooLong);
     }
-    if line.len() < 64 {
+    let Some(front) = line.first_chunk_mut::<64>() else {
         return halted(place, ReadFault::ShortBuffer);
+    };
+    go_on(sheet, bytes, place, front)
+}
+
+// The reader stays, and writes no line.
+fn halted(place: usize, fault: ReadFault) -> Stepped
+    ensures { result ≡ record { place = place; written = 0; fault = fault_at place (Reading fault) } }
+{
+    let fault = Fault {
+        place,
+        fault: RecordFault::Reading(fault),
+    };
+    Stepped {
+        place,
+        written: 0,
+        fault: Some(fault),
     }
+}
+
+// A step of a record that is not too long, with room for its line: by the sheet, the bytes and the place that the caller of `step` keeps apart.
+pub(crate) fn go_on(sheet: &mut Sheet, bytes: &[u8], place: usize, line: &mut [u8; 64]) -> Stepped
+    ensures long { length line.new ≡ 64 }
+    ensures goes_on { GoesOn (ledger sheet.old) bytes.now place line.old (ledger sheet.new) result line.new }
+{
     let (next, result) = advance(sheet, bytes, place, line);
     match result {
         Ok(written) => Stepped {
@@ -40,29 +63,13 @@ pub fn step(sheet: &mut Sheet, bytes: &[u8], place: usize, line: &mut [u8]) -> S
     }
 }
 
-// The reader stays, and writes no line.
-fn halted(place: usize, fault: ReadFault) -> Stepped
-    ensures { result ≡ record { place = place; written = 0; fault = fault_at place (Reading fault) } }
-{
-    let fault = Fault {
-        place,
-        fault: RecordFault::Reading(fault),
-    };
-    Stepped {
-        place,
-        written: 0,
-        fault: Some(fault),
-    }
-}
-
-// The place of the next command, and the length of this one's line or its fault.
+// The place of the next command, and the length of this one's line or its fault; beside the `Result`, since a fault has a next place too.
 fn advance(
     sheet: &mut Sheet,
     bytes: &[u8],
     place: usize,
-    line: &mut [u8],
+    line: &mut [u8; 64],
 ) -> (usize, Result<usize, RecordFault>)
-    requires { 64 ≤ length line.old }
     ensures { Delivers (Advances (ledger sheet.old) bytes.now place (ledger sheet.new) result.0) line.old result.1 line.new }
 {
     let end = bytes.len();

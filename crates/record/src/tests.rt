@@ -5,12 +5,9 @@ use crate::transcripts::transcript;
 use sheet::Sheet;
 use std::test::Fail;
 
-// The number of the step's refusal, 0 for none.
-fn refusal(stepped: Stepped) -> u8 {
-    match stepped.fault {
-        Some(at) => at.fault.number(),
-        None => 0,
-    }
+// The number of the step's refusal.
+fn refusal(stepped: Stepped) -> Option<u8> {
+    stepped.fault.map(|at| at.fault.number())
 }
 
 #[test]
@@ -54,7 +51,7 @@ fn a_place_past_the_end(rt: HostRuntime) {
     let mut sheet = Sheet::new();
     let mut line = [b'.'; 64];
     let stepped = step(&mut sheet, &[0x05], 2, &mut line);
-    assert_eq!(rt; refusal(stepped), 17);
+    assert_eq!(rt; refusal(stepped), Some(17));
     assert_eq!(rt; stepped.place, 1);
     assert_eq!(rt; stepped.written, 21);
     assert_eq!(rt; &line[0..24], b"fault at 2 record 17\n...".as_slice());
@@ -65,7 +62,7 @@ fn a_buffer_of_63_bytes(rt: HostRuntime) {
     let mut sheet = Sheet::new();
     let mut line = [b'.'; 63];
     let stepped = step(&mut sheet, &[0x05, 0], 2, &mut line);
-    assert_eq!(rt; refusal(stepped), 18);
+    assert_eq!(rt; refusal(stepped), Some(18));
     assert_eq!(rt; stepped.place, 2);
     assert_eq!(rt; stepped.written, 0);
     assert_eq!(rt; line, [b'.'; 63]);

@@ -1,11 +1,8 @@
 -- `office::interface::mosvitar_transcript` meets its contract.
 use Rattle.std.proofs.Common.{◌≤◌, [], length, arith}
-use Rattle.office.proofs.Filled.{enough, measured, too_short, too_long}
+use Rattle.office.proofs.Filled.{enough, measured, too_short}
 use Rattle.office.proofs.interface.mosvitar_transcript.Goals as goal
 use Rattle.office.proofs.interface.mosvitar_transcript.Goals.{then-out-bytes+else-n-out, else-out-bytes}
-
-pub returns-then-bytes-gt65536 : goal.returns-then-bytes-gt65536
-returns-then-bytes-gt65536 c = too_long c.args.bytes.now c.args.out.now c.put.new.out c.if-bytes-gt65536.true c.put.ensures
 
 pub returns-then-n-out : goal.returns-then-n-out
 returns-then-n-out c = too_short c.args.bytes.now [] c.fill-n.new.out c.args.out.now c.fill-n.result c.fill-n.ensures c.if-n-out.true

@@ -1,6 +1,5 @@
 -- `record::running::run_bending` meets its contract.
-use Rattle.std.proofs.Common.{ℕ, [], Err, refl, ap, ◌∙◌, subst}
-use Rattle.faults.specs.declared.question.QuestionFault.TheVariants.{UnknownState}
+use Rattle.std.proofs.Common.{ℕ, [], refl, subst}
 use Rattle.faults.specs.declared.recorded.RecordFault.TheVariants.{Part, Question}
 use Rattle.sheet.specs.Ledger.{ledger}
 use Rattle.kinds.specs.declared.slab.Slab.{Slab}
@@ -9,7 +8,7 @@ use Rattle.kinds.specs.Decks.{Holds, pushes_of, bars_of}
 use Rattle.questions.specs.Bending.{verdict_number, RefusesBending, IsResistance, Judges}
 use Rattle.record.specs.Lines.{bending_line}
 use Rattle.record.specs.Runs.{TellsBending, slab_pushes, slab_pulls}
-use Rattle.record.proofs.Outcomes.{wrapped, faulted, printed, bending_refused}
+use Rattle.record.proofs.Outcomes.{wrapped, faulted, unknown_state, printed, bending_refused}
 use Rattle.record.proofs.running.run_bending.Goals as goal
 
 -- what holds of the deck that was filled holds of the slab
@@ -38,12 +37,10 @@ pub returns-in_err-state : goal.returns-in_err-state
 returns-in_err-state c =
     let L = ledger c.args.sheet.now in
     let s = c.args.slab in
-    let f = c.in_err-state.field-0.0 in
-    let r = c.from_residual-in_err-state.result in
     let was = c.in_err-state.ensures in
     let held = c.in_ok-fill.ensures in
     let found = c.in_ok-found.found in
-    faulted (TellsBending L c.args.state s L) c.args.line.now r (Question UnknownState) (wrapped Question f r c.from_residual-in_err-state.ensures.1 ∙ ap (λ q. Err (Question q)) was.0)
+    unknown_state (TellsBending L c.args.state s L) c.args.line.now c.from_residual-in_err-state.result c.in_err-state.field-0.0 c.from_residual-in_err-state.ensures.1 was.0
     (held.0, (was.1, (found, of_slab s c.fill.new.self held.1 (λ p q. IsResistance L p q found) c.in_ok-found.ensures.answer)), refl)
 
 pub returns : goal.returns

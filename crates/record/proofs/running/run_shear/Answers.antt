@@ -1,6 +1,5 @@
 -- `record::running::run_shear` meets its contract.
-use Rattle.std.proofs.Common.{Err, refl, ap, ◌∙◌, subst}
-use Rattle.faults.specs.declared.question.QuestionFault.TheVariants.{UnknownState}
+use Rattle.std.proofs.Common.{refl, subst}
 use Rattle.faults.specs.declared.recorded.RecordFault.TheVariants.{Question}
 use Rattle.sheet.specs.Ledger.{ledger}
 use Rattle.questions.specs.Bending.{verdict_number}
@@ -8,7 +7,7 @@ use Rattle.questions.specs.Shear.{RefusesShear, IsShearResistance, JudgesShear}
 use Rattle.record.specs.Lines.{shear_line}
 use Rattle.record.specs.Codes.{spacing_of}
 use Rattle.record.specs.Runs.{TellsShear}
-use Rattle.record.proofs.Outcomes.{wrapped, faulted, printed, shear_refused}
+use Rattle.record.proofs.Outcomes.{wrapped, faulted, unknown_state, printed, shear_refused}
 use Rattle.record.proofs.running.run_shear.Goals as goal
 
 pub returns-in_err-force : goal.returns-in_err-force
@@ -23,11 +22,9 @@ pub returns-in_err-state : goal.returns-in_err-state
 returns-in_err-state c =
     let L = ledger c.args.sheet.now in
     let d = spacing_of c.args.spacing in
-    let f = c.in_err-state.field-0.0 in
-    let r = c.from_residual-in_err-state.result in
     let was = c.in_err-state.ensures in
     let force = subst (λ o. IsShearResistance L o c.in_ok-force.force) c.spacing_of-spacing.ensures c.in_ok-force.ensures in
-    faulted (TellsShear L c.args.state d L) c.args.line.now r (Question UnknownState) (wrapped Question f r c.from_residual-in_err-state.ensures.1 ∙ ap (λ q. Err (Question q)) was.0)
+    unknown_state (TellsShear L c.args.state d L) c.args.line.now c.from_residual-in_err-state.result c.in_err-state.field-0.0 c.from_residual-in_err-state.ensures.1 was.0
     ((was.1, (c.in_ok-force.force, force)), refl)
 
 pub returns : goal.returns

@@ -1,31 +1,18 @@
 -- `record::stepping::step` meets its contract.
-use Rattle.std.proofs.Common.{subst}
+use Rattle.std.proofs.Common.{ℕ, List, subst}
 use Rattle.sheet.specs.Ledger.{ledger}
-use Rattle.record.specs.Runs.{Delivers}
-use Rattle.record.specs.Steps.{Advances}
-use Rattle.record.proofs.StepTests.{too_long, short_buffer, wrote_line, wrote_fault}
+use Rattle.record.specs.Steps.{GoesOn}
+use Rattle.record.proofs.StepTests.{too_long, short_buffer, made}
 use Rattle.record.proofs.stepping.step.Goals as goal
 
 pub returns-then-bytes-gt65536 : goal.returns-then-bytes-gt65536
 returns-then-bytes-gt65536 c = too_long (ledger c.args.sheet.now) c.args.bytes.now c.args.place c.args.line.now _ c.if-bytes-gt65536.true c.halted.ensures
 
-pub returns-then-line-lt64 : goal.returns-then-line-lt64
-returns-then-line-lt64 c =
-    short_buffer (ledger c.args.sheet.now) c.args.bytes.now c.args.place c.args.line.now _ c.if-bytes-gt65536.false c.if-line-lt64.true c.halted-then-line-lt64.ensures
+pub returns-in_default : goal.returns-in_default
+returns-in_default c =
+    short_buffer (ledger c.args.sheet.now) c.args.bytes.now c.args.place c.args.line.now _ c.if-bytes-gt65536.false c.in_default.ensures.cases c.halted-in_default.ensures
 
-pub returns-in-Ok : goal.returns-in-Ok
-returns-in-Ok c =
-    let L = ledger c.args.sheet.now in
-    let M = ledger c.advance-next.new.sheet in
-    let next = c.advance-next.result.0 in
-    let told = subst (λ r. Delivers (Advances L c.args.bytes.now c.args.place M next) c.args.line.now r c.advance-next.new.line) c.in-Ok.is c.advance-next.ensures in
-    wrote_line L c.args.bytes.now c.args.place c.args.line.now c.if-bytes-gt65536.false c.if-line-lt64.false M next c.in-Ok.written c.advance-next.new.line told
-
-pub returns-in-Err : goal.returns-in-Err
-returns-in-Err c =
-    let L = ledger c.args.sheet.now in
-    let M = ledger c.advance-next.new.sheet in
-    let next = c.advance-next.result.0 in
-    let told = subst (λ r. Delivers (Advances L c.args.bytes.now c.args.place M next) c.args.line.now r c.advance-next.new.line) c.in-Err.is c.advance-next.ensures in
-    wrote_fault L c.args.bytes.now c.args.place c.args.line.now c.if-bytes-gt65536.false c.if-line-lt64.false M next c.in-Err.fault c.advance-next.new.line
-    c.write_fault-written.result c.write_fault-written.new.line told c.write_fault-written.ensures
+pub returns : goal.returns
+returns c =
+    let chunk = c.in-Some.ensures.cases in
+    made c.if-bytes-gt65536.false chunk.enough c.go_on.ensures.long (subst (λ (front : List ℕ). GoesOn (ledger c.args.sheet.now) c.args.bytes.now c.args.place front (ledger c.go_on.new.sheet) c.go_on.result c.go_on.new.line) chunk.same c.go_on.ensures.goes_on)

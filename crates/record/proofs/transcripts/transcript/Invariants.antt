@@ -1,10 +1,9 @@
-use Rattle.std.proofs.Common.{◌-◌, ◌≤◌, length, vec_items}
-use Rattle.sheet.specs.Ledger.{ledger}
-use Rattle.record.proofs.Following.{Begun}
+use Rattle.std.proofs.Common.{◌-◌, length, vec_items}
+use Rattle.record.proofs.Readings.{SoFar}
 use Rattle.record.proofs.transcripts.transcript.Given as goal
 
-abbrev pub invariant-loop-place : goal.invariant-loop-place
-invariant-loop-place l = (l.place ≤ length l.bytes) × Begun l.bytes (ledger l.sheet) l.place (vec_items l.lines)
+abbrev pub invariant-loop-written : goal.invariant-loop-written
+invariant-loop-written l = SoFar l.bytes l.reading (vec_items l.lines)
 
-abbrev pub decreases-loop-place : goal.decreases-loop-place
-decreases-loop-place l = length l.bytes - l.place
+abbrev pub decreases-loop-written : goal.decreases-loop-written
+decreases-loop-written l = length l.reading.bytes.now - l.reading.place

@@ -1,7 +1,0 @@
--- `command::reading::read_strike` meets its contract.
-use Rattle.std.proofs.Common.{rules}
-use Rattle.command.proofs.Taking.{taken}
-use Rattle.command.proofs.reading.read_strike.Goals as goal
-
-pub returns : goal.returns
-returns c = taken 1 c.args.operands.now _ _ (search rules) (search rules)
