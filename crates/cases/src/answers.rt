@@ -4,6 +4,7 @@ use crate::parts::{Question, ask};
 use crate::records::transcript;
 use crate::sort::Sort;
 use crate::stop::Stop;
+use crate::texts;
 use crate::texts::numbers;
 use crate::words::Words;
 use faults::SheetFault;
@@ -34,7 +35,7 @@ pub(crate) fn made(
     }
 }
 
-// A question changes nothing.
+// The arms of `runs` once more, since the direct calls are what is compared with a list's. A question changes nothing.
 fn change(sheet: &mut Sheet, call: Call<Deck>) -> Result<(), SheetFault> {
     match call {
         Call::Place { slot, plate } => sheet.place(slot, plate),
@@ -42,14 +43,14 @@ fn change(sheet: &mut Sheet, call: Call<Deck>) -> Result<(), SheetFault> {
         Call::Lower { levels } => sheet.lower(levels),
         Call::Enter { slot, load, effect } => sheet.enter(slot, load, effect),
         Call::Strike { slot } => sheet.strike(slot),
-        _ => Ok(()),
+        Call::Extremes { .. } | Call::Axis { .. } | Call::Bending { .. } => Ok(()),
     }
 }
 
 fn extremes(heap: Global, sheet: &Sheet, mut words: Words<'_>) -> Result<String, Stop> {
     let state = words.state()?;
-    let (low, high) = questions::extremes(sheet, &state, words.kind()?);
-    Ok(numbers(heap, &[low, high])?)
+    let found = questions::extremes(sheet, &state, words.kind()?);
+    Ok(texts::extremes(heap, found)?)
 }
 
 fn shear(heap: Global, sheet: &Sheet, mut words: Words<'_>) -> Result<String, Stop> {

@@ -23,7 +23,9 @@ pub(crate) fn call(heap: Global, sort: Sort, mut words: Words<'_>) -> Result<Cal
         Sort::Extremes => extremes(words),
         Sort::Axis => axis(heap, words),
         Sort::Bending => bending(heap, words),
-        _ => Err(Stop::NotListed),
+        Sort::Shear | Sort::Studs | Sort::Part | Sort::Resultants | Sort::Record => {
+            Err(Stop::NotListed)
+        }
     }
 }
 

@@ -1,6 +1,6 @@
 // A line that has a call.
 use crate::sort::Sort;
-use anyhow::anyhow;
+use anyhow::Context;
 
 #[derive(Clone, Copy)]
 pub(crate) struct Line<'a> {
@@ -12,15 +12,10 @@ pub(crate) struct Line<'a> {
 
 impl<'a> Line<'a> {
     pub(crate) fn read(text: &'a str) -> anyhow::Result<Line<'a>> {
-        let Some((call, expected)) = text.split_once(" = ") else {
-            return Err(anyhow!("a line without a reply"));
-        };
+        let (call, expected) = text.split_once(" = ").context("a line without a reply")?;
         let (name, operands) = call.split_once(' ').unwrap_or((call, ""));
-        let Some(sort) = Sort::named(name) else {
-            return Err(anyhow!("an unknown call"));
-        };
         Ok(Line {
-            sort,
+            sort: name.parse()?,
             operands,
             expected,
         })

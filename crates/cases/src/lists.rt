@@ -2,7 +2,7 @@
 use crate::calls::call;
 use crate::line::Line;
 use crate::stop::Stop;
-use crate::tally::Tally;
+use crate::tally::{Tally, agrees};
 use crate::texts;
 use crate::words::Words;
 use kinds::Deck;
@@ -12,10 +12,11 @@ use std::alloc::{AllocError, Global};
 // The reply that is expected of a call, and the number of its line.
 #[derive(Drop)]
 struct Expected {
-    line: u32,
+    line: u64,
     reply: String,
 }
 
+// Two lists and not one of pairs, since `runs::replay` takes the calls as one slice.
 #[derive(Drop)]
 pub(crate) struct List {
     calls: Vec<Call<Deck>>,
@@ -23,9 +24,15 @@ pub(crate) struct List {
 }
 
 impl Expected {
-    fn compare(&self, rt: &HostRuntime, tally: &mut Tally, reply: Reply) -> anyhow::Result<()> {
-        let got = texts::reply(rt.alloc(), reply)?;
-        tally.add_listed(rt, self.line, self.reply.as_str(), got.as_str())?;
+    fn compare(
+        &self,
+        heap: Global,
+        rt: &impl Print,
+        tally: &mut Tally,
+        reply: Reply,
+    ) -> anyhow::Result<()> {
+        let got = texts::reply(heap, reply)?;
+        tally.add_listed(agrees(rt, self.line, self.reply.as_str(), got.as_str())?);
         Ok(())
     }
 }
@@ -43,7 +50,7 @@ impl List {
         &mut self,
         heap: Global,
         line: Line<'_>,
-        number: u32,
+        number: u64,
     ) -> Result<(), AllocError> {
         match call(heap, line.sort, Words::new(line.operands)) {
             Ok(call) => self.push(call, number, String::from_str(heap, line.expected)?),
@@ -52,16 +59,21 @@ impl List {
         }
     }
 
-    fn push(&mut self, call: Call<Deck>, line: u32, reply: String) -> Result<(), AllocError> {
+    fn push(&mut self, call: Call<Deck>, line: u64, reply: String) -> Result<(), AllocError> {
         self.calls.push(call)?;
         self.expected.push(Expected { line, reply })?;
         Ok(())
     }
 
-    pub(crate) fn replay(&self, rt: &HostRuntime, tally: &mut Tally) -> anyhow::Result<()> {
-        let (_, replies) = runs::replay(rt.alloc(), self.calls.as_slice())?;
+    pub(crate) fn replay(
+        &self,
+        heap: Global,
+        rt: &impl Print,
+        tally: &mut Tally,
+    ) -> anyhow::Result<()> {
+        let (_, replies) = runs::replay(heap, self.calls.as_slice())?;
         for (expected, reply) in self.expected.iter().zip(replies.iter()) {
-            expected.compare(rt, tally, *reply)?;
+            expected.compare(heap, rt, tally, *reply)?;
         }
         Ok(())
     }

@@ -16,7 +16,7 @@ mod words;
 
 use crate::case::Case;
 use crate::tally::Tally;
-use anyhow::anyhow;
+use anyhow::ensure;
 use std::io::{BufRead, BufReader};
 
 fn main(rt: HostRuntime) -> anyhow::Result<()> {
@@ -25,19 +25,18 @@ fn main(rt: HostRuntime) -> anyhow::Result<()> {
 
 fn run(rt: &HostRuntime) -> anyhow::Result<()> {
     let mut case = Case::new(rt.alloc());
-    let mut tally = Tally::new();
-    for line in BufReader::new(rt.alloc(), rt.stdin())?.lines(rt.alloc()) {
-        case.follow(rt, &mut tally, line?.as_str())?;
+    let mut tally = Tally::new(rt.alloc());
+    let lines = BufReader::new(rt.alloc(), rt.stdin())?.lines(rt.alloc());
+    for (number, line) in (1u64..).zip(lines) {
+        case.follow(rt, &mut tally, number, line?.as_str())?;
     }
     case.end(rt, &mut tally)?;
     conclude(rt, &tally)
 }
 
-fn conclude(rt: &HostRuntime, tally: &Tally) -> anyhow::Result<()> {
+fn conclude(rt: &impl Print, tally: &Tally) -> anyhow::Result<()> {
     tally.print(rt)?;
-    if !tally.all_agree() {
-        return Err(anyhow!("some replies differ"));
-    }
+    ensure!(tally.all_agree(), "some replies differ");
     rt.println("all agree")?;
     Ok(())
 }

@@ -32,7 +32,14 @@ impl Question {
                 let sense = words.sense()?;
                 Ok(Question::Resultants(sense, words.value()?))
             }
-            _ => Err(Stop::Unreadable),
+            Sort::Place
+            | Sort::Lift
+            | Sort::Lower
+            | Sort::Enter
+            | Sort::Strike
+            | Sort::Extremes
+            | Sort::Shear
+            | Sort::Record => Err(Stop::Unreadable),
         }
     }
 }
@@ -62,13 +69,8 @@ fn ask_with_shape(
     let top = words.value()?;
     let fy = words.value()?;
     let breadths = breadths(heap, words)?;
-    Shape::tried(top, fy, breadths.as_slice())?;
-    answer(
-        heap,
-        sheet,
-        question,
-        &Shape::new(top, fy, breadths.as_slice()),
-    )
+    let shape = Shape::try_new(top, fy, breadths.as_slice())?;
+    answer(heap, sheet, question, &shape)
 }
 
 fn answer<P: Part>(
@@ -78,10 +80,7 @@ fn answer<P: Part>(
     part: &P,
 ) -> Result<String, Stop> {
     match question {
-        Question::Axis(sense) => {
-            let (level, moment, imbalance) = questions::axis(sheet, part, sense)?;
-            Ok(numbers(heap, &[u64::from(level), moment, imbalance])?)
-        }
+        Question::Axis(sense) => { Ok(texts::axis(heap, questions::axis(sheet, part, sense)?)?) }
         Question::Bending(state) => {
             Ok(texts::bending(heap, questions::bending(sheet, part, &state)?)?)
         }
@@ -104,10 +103,7 @@ pub(crate) fn deck(heap: Global, mut words: Words<'_>) -> Result<Deck, Stop> {
         height: words.value()?,
         fc: words.value()?,
     };
-    let mut layers = Vec::new(heap);
-    for word in words.rest {
-        layers.push(layer(word)?)?;
-    }
+    let layers: Vec<BarLayer> = words.rest.map(layer).try_collect(heap)?;
     let mut deck = Deck::empty();
     deck.fill(slab, layers.as_slice())?;
     Ok(deck)
@@ -115,12 +111,8 @@ pub(crate) fn deck(heap: Global, mut words: Words<'_>) -> Result<Deck, Stop> {
 
 // STRIP:AREA:YIELD
 fn layer(word: &str) -> Result<BarLayer, Stop> {
-    let Some((strip, rest)) = word.split_once(':') else {
-        return Err(Stop::Unreadable);
-    };
-    let Some((area, fy)) = rest.split_once(':') else {
-        return Err(Stop::Unreadable);
-    };
+    let (strip, rest) = word.split_once(':').ok_or(Stop::Unreadable)?;
+    let (area, fy) = rest.split_once(':').ok_or(Stop::Unreadable)?;
     Ok(BarLayer {
         strip: parsed(strip)?,
         area: parsed(area)?,
@@ -129,9 +121,5 @@ fn layer(word: &str) -> Result<BarLayer, Stop> {
 }
 
 fn breadths(heap: Global, words: Words<'_>) -> Result<Vec<u16>, Stop> {
-    let mut breadths = Vec::new(heap);
-    for word in words.rest {
-        breadths.push(parsed(word)?)?;
-    }
-    Ok(breadths)
+    words.rest.map(parsed).try_collect(heap)
 }

@@ -1,5 +1,8 @@
-// The sorts of calls.
-#[derive(Clone, Copy)]
+// The sorts of calls. Where a call is read they are told apart by a `match`, since each reads words of its own.
+use std::str::FromStr;
+use thiserror::Error;
+
+#[derive(Clone, Copy, Debug, PartialEq, Eq, PartialOrd, Ord)]
 pub(crate) enum Sort {
     Place,
     Lift,
@@ -16,23 +19,29 @@ pub(crate) enum Sort {
     Record,
 }
 
-pub(crate) const SORTS: [Sort; 13] = [
-    Sort::Place,
-    Sort::Lift,
-    Sort::Lower,
-    Sort::Enter,
-    Sort::Strike,
-    Sort::Extremes,
-    Sort::Axis,
-    Sort::Bending,
-    Sort::Shear,
-    Sort::Studs,
-    Sort::Part,
-    Sort::Resultants,
-    Sort::Record,
-];
+// No sort of call has this name.
+#[derive(Clone, Copy, Debug, PartialEq, Eq, Error)]
+#[error("an unknown call")]
+pub(crate) struct UnknownSort;
 
 impl Sort {
+    // In the order in which they are counted and shown.
+    pub(crate) const ALL: [Sort; 13] = [
+        Sort::Place,
+        Sort::Lift,
+        Sort::Lower,
+        Sort::Enter,
+        Sort::Strike,
+        Sort::Extremes,
+        Sort::Axis,
+        Sort::Bending,
+        Sort::Shear,
+        Sort::Studs,
+        Sort::Part,
+        Sort::Resultants,
+        Sort::Record,
+    ];
+
     pub(crate) fn name(self) -> &'static str {
         match self {
             Sort::Place => "place",
@@ -50,13 +59,15 @@ impl Sort {
             Sort::Record => "record",
         }
     }
+}
 
-    pub(crate) fn named(name: &str) -> Option<Sort> {
-        for sort in SORTS {
-            if sort.name() == name {
-                return Some(sort);
-            }
-        }
-        None
+impl FromStr for Sort {
+    type Err = UnknownSort;
+
+    fn from_str(name: &str) -> Result<Sort, UnknownSort> {
+        Sort::ALL
+            .into_iter()
+            .find(|sort| sort.name() == name)
+            .ok_or(UnknownSort)
     }
 }

@@ -1,44 +1,32 @@
 // Why a call has no answer.
 use faults::{PartFault, QuestionFault, SheetFault};
-use std::alloc::{AllocError, AllocFailed};
+use runs::CallFault;
+use std::alloc::AllocError;
+use thiserror::Error;
 
-#[derive(Clone, Copy)]
+#[derive(Clone, Copy, Debug, PartialEq, Eq, Error)]
 pub(crate) enum Stop {
-    // the library refuses the call, with this number
-    Refused(u8),
+    #[error("refused {}", .0.number())]
+    Sheet(#[from] SheetFault),
+    #[error("refused {}", .0.number())]
+    Part(#[from] PartFault),
+    #[error("refused {}", .0.number())]
+    Question(#[from] QuestionFault),
     // the line is none of a call
+    #[error("unreadable")]
     Unreadable,
     // no list of calls may have this one
+    #[error("not for a list")]
     NotListed,
-    NoMemory(AllocError),
+    #[error("out of memory")]
+    NoMemory(#[from(alloc)] AllocError),
 }
 
-impl From<SheetFault> for Stop {
-    fn from(fault: SheetFault) -> Stop {
-        Stop::Refused(fault.number())
-    }
-}
-
-impl From<PartFault> for Stop {
-    fn from(fault: PartFault) -> Stop {
-        Stop::Refused(fault.number())
-    }
-}
-
-impl From<QuestionFault> for Stop {
-    fn from(fault: QuestionFault) -> Stop {
-        Stop::Refused(fault.number())
-    }
-}
-
-impl From<AllocError> for Stop {
-    fn from(error: AllocError) -> Stop {
-        Stop::NoMemory(error)
-    }
-}
-
-impl<T: Drop> From<AllocFailed<T>> for Stop {
-    fn from(refused: AllocFailed<T>) -> Stop {
-        Stop::NoMemory(AllocError::from(refused))
+impl From<CallFault> for Stop {
+    fn from(fault: CallFault) -> Stop {
+        match fault {
+            CallFault::Sheet(fault) => Stop::Sheet(fault),
+            CallFault::Question(fault) => Stop::Question(fault),
+        }
     }
 }

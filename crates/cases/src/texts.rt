@@ -1,28 +1,15 @@
 // Answers as text.
-use questions::Bending;
-use runs::Reply;
+use crate::stop::Stop;
+use itertools::Itertools;
+use questions::{Bending, Extremes};
+use runs::{Answer, Reply};
+use section::Axis;
 use std::alloc::{AllocError, Global};
 use std::fmt::Display;
 
 // Parted by blanks.
 pub(crate) fn numbers<T: Display>(heap: Global, numbers: &[T]) -> Result<String, AllocError> {
-    let mut text = String::new(heap);
-    for number in numbers {
-        if !text.is_empty() {
-            text.push(' ')?;
-        }
-        append(heap, &mut text, number)?;
-    }
-    Ok(text)
-}
-
-fn append<T: Display>(heap: Global, text: &mut String, number: &T) -> Result<(), AllocError> {
-    let digits = number.to_string(heap)?;
-    text.push_str(digits.as_str())
-}
-
-pub(crate) fn refused(heap: Global, number: u8) -> Result<String, AllocError> {
-    format!(in heap; "refused {number}")
+    numbers.iter().join(heap, " ")
 }
 
 pub(crate) fn bending(heap: Global, found: Bending) -> Result<String, AllocError> {
@@ -31,17 +18,23 @@ pub(crate) fn bending(heap: Global, found: Bending) -> Result<String, AllocError
     numbers(heap, &[level, found.mp, found.mn, verdict])
 }
 
+pub(crate) fn axis(heap: Global, found: Axis) -> Result<String, AllocError> {
+    numbers(
+        heap,
+        &[u64::from(found.level), found.moment, found.imbalance],
+    )
+}
+
+pub(crate) fn extremes(heap: Global, found: Extremes) -> Result<String, AllocError> {
+    numbers(heap, &[found.low, found.high])
+}
+
 pub(crate) fn reply(heap: Global, reply: Reply) -> Result<String, AllocError> {
     match reply {
-        Reply::Done => String::from_str(heap, "done"),
-        Reply::ChangeRefused(fault) => refused(heap, fault.number()),
-        Reply::Extremes { low, high } => numbers(heap, &[low, high]),
-        Reply::Axis {
-            level,
-            moment,
-            imbalance,
-        } => numbers(heap, &[u64::from(level), moment, imbalance]),
-        Reply::Bending(found) => bending(heap, found),
-        Reply::QuestionRefused(fault) => refused(heap, fault.number()),
+        Ok(Answer::Done) => String::from_str(heap, "done"),
+        Ok(Answer::Extremes(found)) => extremes(heap, found),
+        Ok(Answer::Axis(found)) => axis(heap, found),
+        Ok(Answer::Bending(found)) => bending(heap, found),
+        Err(fault) => Stop::from(fault).to_string(heap),
     }
 }

@@ -16,10 +16,7 @@ pub(crate) fn parsed<T: FromStr>(text: &str) -> Result<T, Stop>
 where
     T::Err: Drop,
 {
-    match text.parse::<T>() {
-        Ok(value) => Ok(value),
-        Err(_) => Err(Stop::Unreadable),
-    }
+    text.parse().map_err(|_| Stop::Unreadable)
 }
 
 impl<'a> Words<'a> {
@@ -30,10 +27,7 @@ impl<'a> Words<'a> {
     }
 
     pub(crate) fn word(&mut self) -> Result<&'a str, Stop> {
-        match self.rest.next() {
-            Some(word) => Ok(word),
-            None => Err(Stop::Unreadable),
-        }
+        self.rest.next().ok_or(Stop::Unreadable)
     }
 
     pub(crate) fn value<T: FromStr>(&mut self) -> Result<T, Stop>
@@ -45,10 +39,8 @@ impl<'a> Words<'a> {
 
     // LOW-HIGH
     fn range(&mut self) -> Result<(u16, u16), Stop> {
-        match self.word()?.split_once('-') {
-            Some((low, high)) => Ok((parsed(low)?, parsed(high)?)),
-            None => Err(Stop::Unreadable),
-        }
+        let (low, high) = self.word()?.split_once('-').ok_or(Stop::Unreadable)?;
+        Ok((parsed(low)?, parsed(high)?))
     }
 
     fn ranges(&mut self) -> Result<[(u16, u16); 4], Stop> {
@@ -74,6 +66,7 @@ impl<'a> Words<'a> {
         })
     }
 
+    // This, `kind` and `sense` by hand and not as `FromStr`: the library fixes no spelling, each program has words of its own.
     pub(crate) fn load(&mut self) -> Result<LoadType, Stop> {
         match self.word()? {
             "DC" => Ok(LoadType::Dc),

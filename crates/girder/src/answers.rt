@@ -1,10 +1,9 @@
 // What stands above the calls, and shear and studs of a sheet, asked and printed.
 use crate::girder::{COVER_BREADTH, COVER_HEIGHT, COVER_TOP, FY, SLAB, strength_one};
-use crate::refusal::Refusal;
 use crate::units::{Inches, kips, thousandths};
 use crate::words::verdict_name;
 use kinds::Deck;
-use questions::{ShearAnswer, Stud, StudAnswer};
+use questions::Stud;
 use sheet::Sheet;
 use std::io;
 
@@ -15,21 +14,12 @@ const STUD: Stud = Stud {
     ec: 3_640_000,
 };
 
-fn shear(sheet: &Sheet, spacing: Option<u16>) -> Result<ShearAnswer, Refusal> {
-    let state = strength_one()?;
-    Ok(questions::shear(sheet, spacing, &state)?)
-}
-
-fn studs(sheet: &Sheet, deck: &Deck) -> Result<StudAnswer, Refusal> {
-    Ok(questions::studs(sheet, deck, STUD)?)
-}
-
 const UNITS: &str =
     "Units: levels 1/16 in, forces 1/256 lb, plastic moments 1/8192 lb-in, Mp and Mn lb-in,
 factored sums 1/1600 kip or kip-ft; in brackets cut to whole kips or kip-ft";
 
 // The title, the parts that questions are asked with, and the units.
-pub(crate) fn print_head(rt: &HostRuntime) -> io::Result<()> {
+pub(crate) fn print_head(rt: &impl Print) -> io::Result<()> {
     rt.println("Composite plate girder, worked from the empty sheet")?;
     let breadth = Inches(SLAB.breadth);
     let height = Inches(SLAB.height);
@@ -44,11 +34,11 @@ pub(crate) fn print_head(rt: &HostRuntime) -> io::Result<()> {
 }
 
 pub(crate) fn print_shear(
-    rt: &HostRuntime,
+    rt: &impl Print,
     sheet: &Sheet,
     spacing: Option<u16>,
 ) -> anyhow::Result<()> {
-    let found = shear(sheet, spacing)?;
+    let found = questions::shear(sheet, spacing, &strength_one())?;
     match spacing {
         None => rt.print("      shear in Strength I without stiffeners")?,
         Some(spacing) => print!(rt;
@@ -63,8 +53,8 @@ pub(crate) fn print_shear(
     Ok(())
 }
 
-pub(crate) fn print_studs(rt: &HostRuntime, sheet: &Sheet, deck: &Deck) -> anyhow::Result<()> {
-    let found = studs(sheet, deck)?;
+pub(crate) fn print_studs(rt: &impl Print, sheet: &Sheet, deck: &Deck) -> anyhow::Result<()> {
+    let found = questions::studs(sheet, deck, STUD)?;
     let force = found.force;
     let (kips, pounds) = thousandths(force);
     let (inches, rest) = thousandths(u64::from(STUD.area));

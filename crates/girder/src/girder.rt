@@ -1,12 +1,11 @@
 // The girder: its plates and load effects, and what is asked of it, as one list of calls.
-use crate::refusal::Refusal;
 use cover_plate::CoverPlate;
 use faults::PartFault;
 use kinds::{Deck, Either, Slab};
-use loads::{Effect, EffectKind, LimitState, LoadType};
+use loads::{Effect, EffectKind, LimitState, LoadType, PublishedState};
 use runs::Call;
 use section::Sense;
-use sheet::PlateInput;
+use sheet::{PlateInput, Role};
 use std::alloc::{AllocError, Global};
 
 // The two kinds of part that stand in the list: the library's deck and a kind from outside it.
@@ -21,26 +20,26 @@ pub(crate) const SLAB: Slab = Slab {
     fc: 4000,
 };
 
-// Right below the bottom flange.
+// The cover plate as `CoverPlate::new` takes it, right below the bottom flange.
 pub(crate) const COVER_TOP: u16 = 808;
 
 pub(crate) const COVER_BREADTH: u16 = 256;
 
 pub(crate) const COVER_HEIGHT: u16 = 16;
 
-pub(crate) fn deck() -> Result<Deck, Refusal> {
+pub(crate) fn deck() -> Result<Deck, PartFault> {
     let mut deck = Deck::empty();
     deck.fill(SLAB, &[])?;
     Ok(deck)
 }
 
-pub(crate) fn cover() -> Result<CoverPlate, Refusal> {
+pub(crate) fn cover() -> Result<CoverPlate, PartFault> {
     let cover = CoverPlate::new(COVER_TOP, COVER_BREADTH, COVER_HEIGHT, FY);
-    Ok(cover.ok_or(PartFault::OutsideLimits)?)
+    cover.ok_or(PartFault::OutsideLimits)
 }
 
-pub(crate) fn strength_one() -> Result<LimitState, Refusal> {
-    Ok(LimitState::published(1)?)
+pub(crate) fn strength_one() -> LimitState {
+    LimitState::from(PublishedState::StrengthI)
 }
 
 // Every call on the girder's sheet, in order.
@@ -48,13 +47,13 @@ pub(crate) fn calls(
     heap: Global,
     deck: Deck,
     cover: CoverPlate,
-) -> anyhow::Result<Vec<Call<Piece>>> {
-    let state = strength_one()?;
+) -> Result<Vec<Call<Piece>>, AllocError> {
+    let state = strength_one();
     let mut calls = Vec::new(heap);
     place_plates(&mut calls)?;
     calls.push(axis(Either::Second(cover)))?;
     // the web's slot is full, so that this plate is refused
-    calls.push(place(1, 4, 128, 160, 12))?;
+    calls.push(place(1, Role::Other, 128, 160, 12))?;
     enter_effects(&mut calls)?;
     calls.push(axis(Either::First(deck)))?;
     calls.push(Call::Extremes {
@@ -71,9 +70,9 @@ pub(crate) fn calls(
 }
 
 fn place_plates(calls: &mut Vec<Call<Piece>>) -> Result<(), AllocError> {
-    calls.push(place(0, 1, 128, 192, 16))?;
-    calls.push(place(1, 2, 144, 8, 640))?;
-    calls.push(place(2, 3, 784, 256, 24))?;
+    calls.push(place(0, Role::TopFlange, 128, 192, 16))?;
+    calls.push(place(1, Role::Web, 144, 8, 640))?;
+    calls.push(place(2, Role::BottomFlange, 784, 256, 24))?;
     Ok(())
 }
 
@@ -86,11 +85,11 @@ fn enter_effects(calls: &mut Vec<Call<Piece>>) -> Result<(), AllocError> {
     Ok(())
 }
 
-fn place(slot: u8, role: u8, top: u16, breadth: u16, height: u16) -> Call<Piece> {
+fn place(slot: u8, role: Role, top: u16, breadth: u16, height: u16) -> Call<Piece> {
     Call::Place {
         slot,
         plate: PlateInput {
-            role,
+            role: u8::from(role),
             top,
             breadth,
             height,
@@ -115,8 +114,8 @@ fn bending(part: Piece, state: LimitState) -> Call<Piece> {
 }
 
 pub(crate) fn is_change(call: &Call<Piece>) -> bool {
-    match call {
-        Call::Extremes { .. } | Call::Axis { .. } | Call::Bending { .. } => false,
-        _ => true,
-    }
+    !matches!(
+        call,
+        Call::Extremes { .. } | Call::Axis { .. } | Call::Bending { .. }
+    )
 }

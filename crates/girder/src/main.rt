@@ -3,46 +3,53 @@
 
 mod answers;
 mod girder;
-mod refusal;
 mod units;
 mod words;
 
 use crate::answers::{print_head, print_shear, print_studs};
-use crate::girder::{Piece, calls, cover, deck};
+use crate::girder::{Piece, calls, cover, deck, is_change};
 use crate::words::{Asked, Told};
 use runs::{Call, Reply};
+use std::alloc::Global;
 use std::io;
 
 fn main(rt: HostRuntime) -> anyhow::Result<()> {
-    run(&rt)
+    run(&rt, rt.alloc())
 }
 
-fn run(rt: &HostRuntime) -> anyhow::Result<()> {
+fn run(rt: &impl Print, heap: Global) -> anyhow::Result<()> {
     let deck = deck()?;
-    let calls = calls(rt.alloc(), deck, cover()?)?;
-    let (sheet, replies) = runs::replay(rt.alloc(), calls.as_slice())?;
+    let calls = calls(heap, deck, cover()?)?;
+    let (sheet, replies) = runs::replay(heap, calls.as_slice())?;
     print_head(rt)?;
     rt.println("\nChanges")?;
-    print_replies(rt, calls.as_slice(), replies.as_slice(), true)?;
+    print_replies(rt, calls.as_slice(), replies.as_slice(), is_change, ": ")?;
     rt.println("\nQuestions")?;
-    print_replies(rt, calls.as_slice(), replies.as_slice(), false)?;
+    print_replies(
+        rt,
+        calls.as_slice(),
+        replies.as_slice(),
+        |call| !is_change(call),
+        "\n        ",
+    )?;
     rt.println("\nQuestions of the sheet that this leaves")?;
     print_shear(rt, &sheet, None)?;
     print_shear(rt, &sheet, Some(960))?;
     print_studs(rt, &sheet, &deck)
 }
 
-// The changes among the calls or the questions, each by its place in the list, with its reply.
-fn print_replies(
-    rt: &HostRuntime,
+// Those of the calls that are to be shown, each by its place in the list, with its reply.
+fn print_replies<F: Fn(&Call<Piece>) -> bool>(
+    rt: &impl Print,
     calls: &[Call<Piece>],
     replies: &[Reply],
-    changes: bool,
-) -> io::Result<()> {
-    let between = if changes { ": " } else { "\n        " };
-    for (i, (call, reply)) in calls.iter().zip(replies.iter()).enumerate() {
-        if girder::is_change(call) == changes {
-            let number = i + 1;
+    shown: F,
+    between: &str,
+) -> io::Result<()>
+    requires { F.IsAlwaysCallable shown }
+{
+    for (number, (call, reply)) in (1u64..).zip(calls.iter().zip(replies)) {
+        if shown(call) {
             println!(rt; "{number:>4}  {}{between}{}", Asked(call), Told(*reply))?;
         }
     }

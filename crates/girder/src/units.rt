@@ -8,7 +8,7 @@ use std::fmt;
 #[derive(Clone, Copy)]
 pub(crate) struct Inches(pub(crate) u16);
 
-// Whole inches, and the rest as a fraction of an inch in lowest terms.
+// Whole inches, and the rest as a fraction of an inch in lowest terms: three numbers that only `Display` below takes apart.
 fn mixed(sixteenths: u16) -> (u16, u16, u16)
     ensures { IsMixed sixteenths result.0 result.1 result.2 }
 {

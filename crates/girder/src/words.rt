@@ -1,13 +1,12 @@
 // Calls and replies in words.
 use crate::girder::Piece;
 use crate::units::{Inches, kip_feet, kips, pound_inches, whole};
-use faults::SheetReason;
 use kinds::Either;
 use loads::{Effect, EffectKind, LoadType};
-use questions::{Bending, Verdict};
-use runs::{Call, Reply};
-use section::Sense;
-use sheet::PlateInput;
+use questions::{Bending, Extremes, Verdict};
+use runs::{Answer, Call, CallFault, Reply};
+use section::{Axis, Sense};
+use sheet::{PlateInput, Role};
 use std::fmt;
 
 // A call, to be shown.
@@ -27,16 +26,8 @@ impl fmt::Display for Asked<'_> {
 impl fmt::Display for Told {
     fn fmt<W: fmt::Write>(&self, f: &mut fmt::Formatter<W>) -> fmt::Result {
         match self.0 {
-            Reply::Done => f.write_str("done"),
-            Reply::ChangeRefused(fault) => {
-                write!(
-                    f,
-                    "refused with {}, {}",
-                    fault.number(),
-                    reason_name(fault.reason)
-                )
-            }
-            Reply::Extremes { low, high } => {
+            Ok(Answer::Done) => f.write_str("done"),
+            Ok(Answer::Extremes(Extremes { low, high })) => {
                 write!(
                     f,
                     "low {low} ({}), high {high} ({})",
@@ -44,13 +35,10 @@ impl fmt::Display for Told {
                     whole(high)
                 )
             }
-            Reply::Axis {
-                level,
-                moment,
-                imbalance,
-            } => show_axis(f, level, moment, imbalance),
-            Reply::Bending(found) => show_bending(f, found),
-            Reply::QuestionRefused(fault) => write!(f, "refused with {}", fault.number()),
+            Ok(Answer::Axis(found)) => show_axis(f, found),
+            Ok(Answer::Bending(found)) => show_bending(f, found),
+            Err(CallFault::Sheet(fault)) => write!(f, "{fault}, {}", fault.reason),
+            Err(CallFault::Question(fault)) => write!(f, "{fault}"),
         }
     }
 }
@@ -117,12 +105,10 @@ fn show_with<W: fmt::Write>(f: &mut fmt::Formatter<W>, question: &str, part: &st
     write!(f, "{question} with the {part}")
 }
 
-fn show_axis<W: fmt::Write>(
-    f: &mut fmt::Formatter<W>,
-    level: u16,
-    moment: u64,
-    imbalance: u64,
-) -> fmt::Result {
+fn show_axis<W: fmt::Write>(f: &mut fmt::Formatter<W>, found: Axis) -> fmt::Result {
+    let level = found.level;
+    let moment = found.moment;
+    let imbalance = found.imbalance;
     let depth = Inches(level);
     let kip_feet = kip_feet(pound_inches(moment));
     let kips = kips(imbalance);
@@ -146,12 +132,13 @@ fn show_bending<W: fmt::Write>(f: &mut fmt::Formatter<W>, found: Bending) -> fmt
     )
 }
 
+// The names below stand in functions and not in a `Display` of the types: the library fixes no spelling, each program has words of its own.
 fn role_name(role: u8) -> &'static str {
-    match role {
-        1 => "top flange",
-        2 => "web",
-        3 => "bottom flange",
-        _ => "plate",
+    match Role::try_from(role) {
+        Ok(Role::TopFlange) => "top flange",
+        Ok(Role::Web) => "web",
+        Ok(Role::BottomFlange) => "bottom flange",
+        Ok(Role::Other) | Err(_) => "plate",
     }
 }
 
@@ -184,18 +171,5 @@ pub(crate) fn verdict_name(verdict: Verdict) -> &'static str {
         Verdict::NotCompact => "not compact",
         Verdict::Brittle => "brittle",
         Verdict::TooWeak => "too weak",
-    }
-}
-
-fn reason_name(reason: SheetReason) -> &'static str {
-    match reason {
-        SheetReason::NoSlot => "no such slot",
-        SheetReason::SlotFull => "the slot is full",
-        SheetReason::SlotEmpty => "the slot is empty",
-        SheetReason::PlateLimits => "the plate is outside its limits",
-        SheetReason::RoleStands => "the role stands already",
-        SheetReason::TooStrong => "the plates would be too strong together",
-        SheetReason::Value(_) => "the value is none that can be kept",
-        SheetReason::TooLow => "a plate would go too low",
     }
 }
