@@ -13,7 +13,8 @@ use runs::Call;
 use sheet::Sheet;
 use std::alloc::Global;
 
-// Makes the call that the words stand for.
+// Makes the call that the words stand for. The heap is a word that is copied from call to call, as the library's own functions take it; a struct
+// round it would be no plainer.
 pub(crate) fn made(
     heap: Global,
     sheet: &mut Sheet,

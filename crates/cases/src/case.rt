@@ -25,6 +25,8 @@ impl Case {
     }
 
     // Does what a line says, which is known by its number: starts a new case, compares a call, or nothing.
+    // The runtime and the tally are lent to each call and not held beside the heap: a struct of two borrows, which each function takes apart again,
+    // would be no plainer.
     pub(crate) fn follow(
         &mut self,
         rt: &impl Print,

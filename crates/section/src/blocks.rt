@@ -38,7 +38,8 @@ impl Block {
         }
     }
 
-    // The force of all its strips.
+    // The force of all its strips. Depths are widened by `as`, here and below, which loses nothing: `u64::from(self.height)` in each product and
+    // difference would be no plainer.
     pub fn total(&self) -> u64
         ensures { result ≡ self.now.strength * self.now.height }
     {
