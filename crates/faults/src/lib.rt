@@ -1,7 +1,8 @@
 //! Every refusal: its number, the layer it arose in, the slot of the refused call, and the place of its command.
 //!
-//! `number` is a method of each type, and `layer` and `slot` of some: the tables differ in each case, so that nothing generic serves two.
-//! A fault is more than its number, which is told by that name and not by `From`.
+//! `number`, `layer` and `slot` are methods and no trait, as nothing is generic over faults; `u8::from(fault)` would not say which number it is.
+//! Numbers stand in a `match` of each: as discriminants 15 could not stand twice, and none stands beside a case that holds a fault, so that half of
+//! the table would have one form and half the other, which is no plainer.
 #![tactic(auto)]
 
 mod layer;

@@ -20,11 +20,11 @@ fn sixteenths(x: f64) -> Result<i32, ValueFault>
     ensures value { result ≡ judged x }
     ensures means { Judges x result }
 {
-    // Two comparisons, and no range's `contains`: that a NaN passes neither is seen here.
+    // Two comparisons, and no range's `contains`, which would be no plainer: here one sees that a NaN passes neither.
     if -131072.0 <= x && x <= 131072.0 {
         let y = x * 16.0;
         let n = saturating_f64_to_i32(y);
-        if n as f64 == y {
+        if f64::from(n) == y {
             Ok(n)
         } else {
             Err(ValueFault::NotSixteenths)
@@ -39,7 +39,7 @@ fn from_sixteenths(n: i32) -> f64
     ensures value { IsSixteenths n result }
     ensures back { judged result ≡ judged_sixteenths n }
 {
-    n as f64 / 16.0
+    f64::from(n) / 16.0
 }
 
 impl Effect {

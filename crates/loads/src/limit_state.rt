@@ -8,8 +8,8 @@ use crate::load_type::LoadType;
 use crate::published::PublishedState;
 use faults::QuestionFault;
 
-// For each load type, in the order DC, DW, LL, WS, a low and a high factor in hundredths. They are pairs, since the published
-// table with named fields would be no plainer.
+// For each load type, in the order DC, DW, LL, WS, a low and a high factor in hundredths. Pairs, as `new`, which is public, takes them; with names for
+// the two the published table would have 72 words more.
 #[derive(Clone, Copy, Debug, PartialEq, Eq)]
 pub struct LimitState {
     pub(crate) factors: [(u16, u16); 4],
@@ -37,7 +37,8 @@ impl LimitState {
         Ok(LimitState { factors })
     }
 
-    // The published state of this number; refused with 15 where it is not 1 to 9.
+    // The published state of this number; refused with 15 where it is not 1 to 9. By number, as a record asks for it; public, and so it stays beside
+    // `PublishedState`, from which a state is made without refusal.
     pub fn published(number: u8) -> Result<LimitState, QuestionFault>
         ensures { Publishes number result }
     {

@@ -22,12 +22,7 @@ impl From<LoadType> for usize {
     ghost from_gives = { λ t n. n ≡ index t };
 
     fn from(load: LoadType) -> usize {
-        match load {
-            LoadType::Dc => 0,
-            LoadType::Dw => 1,
-            LoadType::Ll => 2,
-            LoadType::Ws => 3,
-        }
+        load as usize
     }
 }
 

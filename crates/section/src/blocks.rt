@@ -16,7 +16,7 @@ impl Block {
     pub fn new(top: u16, height: u16, strength: u64) -> Option<Block>
         ensures { BlockMade top height strength result }
     {
-        let total = strength.checked_mul(height as u64)?;
+        let total = strength.checked_mul(u64::from(height))?;
         if height > LOWEST || top > LOWEST - height || total > STRONGEST {
             return None;
         }
@@ -38,12 +38,11 @@ impl Block {
         }
     }
 
-    // The force of all its strips. Depths are widened by `as`, here and below, which loses nothing: `u64::from(self.height)` in each product and
-    // difference would be no plainer.
+    // The force of all its strips.
     pub fn total(&self) -> u64
         ensures { result ≡ self.now.strength * self.now.height }
     {
-        self.strength * self.height as u64
+        self.strength * u64::from(self.height)
     }
 
     // The least level below which no strip has strength.
@@ -76,42 +75,34 @@ impl Block {
     pub fn above(&self, level: u16) -> Side
         ensures { IsAbove self.now (min level 4096) result }
     {
-        let level = level.min(LOWEST) as u64;
-        let top = self.top as u64;
-        let far = level.saturating_sub(top);
-        let near = level.saturating_sub(top + self.height as u64);
-        self.between(near, far)
+        let level = level.min(LOWEST);
+        let far = level.saturating_sub(self.top);
+        let near = level.saturating_sub(self.top + self.height);
+        self.between(u64::from(near), u64::from(far))
     }
 
     // The force and the moment of its strips below a level; a level past 4,096 is read as 4,096.
     pub fn below(&self, level: u16) -> Side
         ensures { IsBelow self.now (min level 4096) result }
     {
-        let level = level.min(LOWEST) as u64;
-        let top = self.top as u64;
-        let far = (top + self.height as u64).saturating_sub(level);
-        let near = top.saturating_sub(level);
-        self.between(near, far)
+        let level = level.min(LOWEST);
+        let far = (self.top + self.height).saturating_sub(level);
+        let near = self.top.saturating_sub(level);
+        self.between(u64::from(near), u64::from(far))
     }
 
-    // The force alone of its strips above a level, as the search for the axis asks it; `force_below` is its mirror.
+    // The force alone of its strips above a level.
     pub fn force_above(&self, level: u16) -> u64
         ensures { result ≡ force_above (strips self.now) (min level 4096) }
     {
-        let level = level.min(LOWEST);
-        let reached = level.saturating_sub(self.top);
-        let passed = level.saturating_sub(self.top + self.height);
-        self.strength * (reached - passed) as u64
+        self.above(level).force
     }
 
     // The force alone of its strips below a level.
     pub fn force_below(&self, level: u16) -> u64
         ensures { result ≡ force_below 4096 (strips self.now) (min level 4096) }
     {
-        let level = level.min(LOWEST);
-        let ahead = (self.top + self.height).saturating_sub(level);
-        let before = self.top.saturating_sub(level);
-        self.strength * (ahead - before) as u64
+        self.below(level).force
     }
 
     // The forces of its strips above and below a level, in either sense, where it pushes and pulls alike.

@@ -20,12 +20,13 @@ pub trait Part {
     fn depth(&self) -> u16
         ensures { IsDepth (pushes self.now) (pulls self.now) result };
 
-    // The forces above and below a level and the moment about it; a level past 4,096 is read as 4,096, which each clause says, since any level
-    // may be asked.
+    // The forces above and below a level and the moment about it; a level past 4,096 is read as 4,096. Each clause says so: a type of levels up to
+    // 4,096 would be no plainer, as callers have a `u16` and would make one first.
     fn resultants(&self, sense: Sense, level: u16) -> Resultants
         ensures { IsResultants sense (pushes self.now) (pulls self.now) (min level 4096) result };
 
-    // The forces of `resultants` alone, which a kind may tell faster than with the moment.
+    // The forces of `resultants` alone, which a kind may tell faster than with the moment: a search for the axis asks for them at each of its levels,
+    // and a bending question takes 1.3 times as long where a deck tells them by its resultants (docs/SPEED.md).
     fn forces(&self, sense: Sense, level: u16) -> Forces
         ensures { IsForces sense (pushes self.now) (pulls self.now) (min level 4096) result }
     {

@@ -1,4 +1,4 @@
-// What a part gives at a level. It holds no `Forces`, so that callers read the forces as `at.above`.
+// What a part gives at a level. It holds no `Forces`: `at.forces.above` at each use would be no plainer, for one shorter `+`.
 ghost use Rattle.std.specs.Prelude.{◌≡◌};
 ghost use Rattle.section.specs.Adding.{resultants_sum};
 

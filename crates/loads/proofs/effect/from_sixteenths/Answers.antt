@@ -11,4 +11,4 @@ pub returns : goal.returns
 returns c =
     let z = c.args.n in
     let v : IsSixteenths z (div binary64 (of_int binary64 z) sixteen) = is_sixteenths z (nat_abs-le z c.ranges.n.sfits) in
-    simp (to_z-of_z c.ranges.n) (record { value = v; back = round_trip z _ v })
+    rw (c.from.ensures, to_z-of_z c.ranges.n) (record { value = v; back = round_trip z _ v })
