@@ -1,10 +1,11 @@
 -- Where some strip has strength, every level has a moment.
-use Rattle.std.proofs.Common.{◌≡◌, ℕ, suc, ◌+◌, ◌-◌, ◌*◌, ◌<◌, ◌≤◌, ⊎_elim, arith}
+use Rattle.std.proofs.Common.{◌≡◌, ℕ, suc, ◌+◌, ◌-◌, ◌*◌, ◌<◌, ◌≤◌, Ok, Err, refl, ⊎_elim, arith}
+use Rattle.std.specs.Result.{IsOk}
 use Rattle.std.proofs.lemmas.Nat.{mul-le}
 use Rattle.section.specs.declared.sense.Sense.{Sense}
 use Rattle.section.specs.declared.sense.Sense.TheVariants.{Sagging, Hogging}
 use Rattle.section.specs.Strips.{sum_to, moment_above, moment_below, ◌⊕◌}
-use Rattle.section.specs.Axis.{LacksMoment}
+use Rattle.section.specs.Axis.{LacksMoment, AxisAnswer}
 use Rattle.section.specs.Sums.{sum_to_suc, sum_to_mono, le_or_lt}
 use Rattle.section.specs.BlockLaws.{block_within}
 use Rattle.cover_plate.specs.declared.cover.CoverPlate.{CoverPlate}
@@ -44,9 +45,14 @@ steel p =
     let w = block_within p.top p.height (p.breadth * p.fy) p.top (omega arith) (omega arith) in
     omega arith
 
-pub pair_steel : (sense : Sense) (p q : CoverPlate) → LacksMoment sense (cover_strips p ⊕ cover_strips q) (cover_strips p ⊕ cover_strips q) → ⊥
+pair_steel : (sense : Sense) (p q : CoverPlate) → LacksMoment sense (cover_strips p ⊕ cover_strips q) (cover_strips p ⊕ cover_strips q) → ⊥
 pair_steel sense p q x =
     let s = steel p in
     let h = p.some in
     let i = p.inside in
     some_in sense (cover_strips p ⊕ cover_strips q) p.top (omega arith) (omega arith) x
+
+-- so that two plates have an axis
+pub pair_found : (sense : Sense) (p q : CoverPlate) (r : _) → AxisAnswer sense (cover_strips p ⊕ cover_strips q) (cover_strips p ⊕ cover_strips q) r → IsOk r
+pair_found sense p q (Ok axis) x = refl
+pair_found sense p q (Err fault) x = absurd (pair_steel sense p q x.1)

@@ -9,12 +9,10 @@ use section::{Axis, Sense, plastic_axis};
 
 // The axis of the two plates together. A plate has some
 // strength in its first strip, so that there always is one.
+#[tactic(auto, using(crate::proofs::Steel::pair_found))]
 pub fn pair_axis(first: &CoverPlate, second: &CoverPlate, sense: Sense) -> Axis
     ensures axis { IsAxis sense (cover_strips first.now ⊕ cover_strips second.now) (cover_strips first.now ⊕ cover_strips second.now) result }
     ensures some { 0 < result.moment }
 {
-    let Ok(axis) = plastic_axis(first, second, sense) else {
-        unreachable()
-    };
-    axis
+    plastic_axis(first, second, sense).unwrap()
 }

@@ -4,28 +4,23 @@ ghost use Rattle.cover_plate.specs.Covers.{cover_strips, CoverMade};
 ghost use Rattle.cover_plate.specs.CoverLaws.{cover_laws};
 
 use crate::cover::CoverPlate;
-use section::{
-    BROADEST, Block, GREATEST_YIELD, LEAST_YIELD, LOWEST, Part, Resultants, STRONGEST, Sense,
-};
+use section::{BROADEST, Block, GREATEST_YIELD, LEAST_YIELD, Part, Resultants, Sense};
 
 impl CoverPlate {
     // The plate of these measures; none where one is outside its limits, or the plate yields at
-    // more than 2^36.
+    // more than 2^36. An `Option`: no fault of the library is a cover plate's.
     pub fn new(top: u16, breadth: u16, height: u16, fy: u32) -> Option<CoverPlate>
         ensures { CoverMade top breadth height fy result }
     {
         if !(1..=BROADEST).contains(&breadth) || height < 1 {
             return None;
         }
-        if height > LOWEST || top > LOWEST - height {
-            return None;
-        }
         if !(LEAST_YIELD..=GREATEST_YIELD).contains(&fy) {
             return None;
         }
-        if u64::from(breadth) * u64::from(height) * u64::from(fy) > STRONGEST {
-            return None;
-        }
+        // its strips end by level 4,096 and yield at 2^36 together at most, as those of every block; the block is made anew where it is asked, since
+        // kept beside the measures it would hold each of them twice
+        Block::new(top, height, u64::from(breadth) * u64::from(fy))?;
         Some(CoverPlate {
             top,
             breadth,
@@ -34,7 +29,8 @@ impl CoverPlate {
         })
     }
 
-    // Its strips as a block, each with the force breadth × yield; by itself, since a cover plate knows of no sheet whose plates do the same.
+    // Its strips as a block, each with the force breadth × yield. Twin of a sheet plate's `block`: a function of both would stand in `section`, take the
+    // same four numbers, and be no plainer.
     fn block(&self) -> Block
         ensures top { result.top ≡ self.now.top }
         ensures height { result.height ≡ self.now.height }

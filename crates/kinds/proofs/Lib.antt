@@ -1,4 +1,3 @@
-mod Scan
 mod Tables
 mod Layers
 mod SlabAndBars

@@ -7,8 +7,8 @@ use section::Block;
 // How many bar layers a deck may have.
 pub(crate) const LAYERS: usize = 6;
 
-// A slab and up to six bar layers, in memory of a fixed size; those that lack are blocks of no strips, which add nothing to any sum and need
-// no case of their own.
+// A slab and up to six bar layers, in memory of a fixed size; missing ones are blocks of no strips, which add nothing to any sum and need no
+// case of their own.
 #[derive(Clone, Copy, Debug, PartialEq, Eq)]
 pub struct Deck {
     pub(crate) slab: Block,

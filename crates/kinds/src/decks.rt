@@ -24,15 +24,8 @@ impl Deck {
         }
     }
 
-    // Fills the deck in place of what it held; refused with 10, and then left as it was.
-    pub fn fill(&mut self, slab: Slab, layers: &[BarLayer]) -> Result<(), PartFault>
-        ensures { Fills slab layers.now self.old result self.new }
-    {
-        *self = Deck::filled(slab, layers)?;
-        Ok(())
-    }
-
-    fn filled(slab: Slab, layers: &[BarLayer]) -> Result<Deck, PartFault>
+    // The deck of a slab and layers; refused with 10 where they do not fit.
+    pub fn try_new(slab: Slab, layers: &[BarLayer]) -> Result<Deck, PartFault>
         ensures { Filled slab layers.now result }
     {
         if layers.len() > LAYERS {
@@ -41,7 +34,7 @@ impl Deck {
         let slab = slab.block().ok_or(PartFault::OutsideLimits)?;
         let mut bars = [Block::empty(); LAYERS];
         let mut total = slab.total();
-        // by index: after `bars.iter_mut().zip(layers)` the check knows nothing of what was written to `bars`
+        // by index (tried: after `bars.iter_mut().zip(layers)` the check knows nothing of what was written)
         for (i, layer) in layers.iter().enumerate() {
             let bar = layer.block().ok_or(PartFault::OutsideLimits)?;
             total += bar.total();
@@ -51,6 +44,14 @@ impl Deck {
             return Err(PartFault::OutsideLimits);
         }
         Ok(Deck { slab, bars })
+    }
+
+    // Fills the deck in place of what it held; refused with 10, and then left as it was. Public, and so it stays beside `try_new`.
+    pub fn fill(&mut self, slab: Slab, layers: &[BarLayer]) -> Result<(), PartFault>
+        ensures { Fills slab layers.now self.old result self.new }
+    {
+        *self = Deck::try_new(slab, layers)?;
+        Ok(())
     }
 
     // The deck's bars alone.
@@ -64,7 +65,7 @@ impl Deck {
     pub(crate) fn bar_depth(&self) -> u16
         ensures { IsDepth (bars_of self.now) (bars_of self.now) result }
     {
-        // a loop: the proof over `map(Block::depth).max()` did not close, as a block's depth is known by a property and not as a function of the block
+        // tried: over `map(Block::depth).max()` the proof did not close, as a block's depth is known by a property, not as a function of the block
         let mut depth: u16 = 0;
         for bar in &self.bars {
             depth = depth.max(bar.depth());
@@ -72,8 +73,9 @@ impl Deck {
         depth
     }
 
-    // The forces of the bars alone at a level, in either sense. Beside `bar_resultants`, since the search for the axis asks at each level for forces alone.
-    // A loop, as the proof goes bar by bar with a bound on each sum so far.
+    // The forces of the bars alone at a level, in either sense. Beside `bar_resultants`, from which they could be taken: with the moment too at each
+    // level of the search for the axis a bending question takes 1.3 times as long (docs/SPEED.md). A `for`, as a `fold` says the same in as many words
+    // and is no plainer.
     pub(crate) fn bar_forces(&self, level: u16) -> Forces
         ensures { (sense : Senses) → IsForces sense (bars_of self.now) (bars_of self.now) (min level 4096) result }
     {
@@ -84,7 +86,7 @@ impl Deck {
         forces
     }
 
-    // What the bars give at a level, in either sense; a loop, as for the forces.
+    // What the bars give at a level, in either sense; a `for`, as for the forces.
     pub(crate) fn bar_resultants(&self, level: u16) -> Resultants
         ensures { (sense : Senses) → IsResultants sense (bars_of self.now) (bars_of self.now) (min level 4096) result }
     {
@@ -107,7 +109,8 @@ impl Part for Deck {
         self.slab.depth().max(self.bar_depth())
     }
 
-    // The slab pushes alone, above the level in sagging and below it in hogging: two arms, here and in `forces`, that mirror one another.
+    // The slab pushes alone, above the level in sagging and below it in hogging. Two arms, here and in `forces`: one of both would be handed
+    // which side the slab is on, and is no plainer.
     fn resultants(&self, sense: Sense, level: u16) -> Resultants {
         let bars = self.bar_resultants(level);
         match sense {

@@ -1,4 +1,5 @@
-// A part of one of two kinds, so that kinds can stand in one list. An enum of its own: a `Part` impl for another library's type would have to stand in `section`.
+// A part of one of two kinds, so that kinds can stand in one list. An enum of its own: an impl of `Part` for a library's type (`Result`,
+// `either::Either`) could stand only in `section`, which knows no kinds; it would be no plainer.
 ghost use Rattle.kinds.specs.Eithers.{of_either, either_laws};
 
 use section::{Forces, Part, Resultants, Sense};

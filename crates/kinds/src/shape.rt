@@ -6,7 +6,9 @@ ghost use Rattle.kinds.specs.Shapes.{Broad, ShapeFits, Tried, table_strip};
 ghost use Rattle.kinds.specs.ShapeLaws.{shape_laws};
 
 use faults::PartFault;
-use section::{BROADEST, GREATEST_YIELD, LEAST_YIELD, LOWEST, Part, Resultants, STRONGEST, Sense};
+use section::{
+    BROADEST, Block, GREATEST_YIELD, LEAST_YIELD, LOWEST, Part, Resultants, STRONGEST, Sense,
+};
 
 // Its top, yield and breadths go together through calls and clauses; a struct for them would be the shape again.
 #[derive(Clone, Copy, Debug, PartialEq, Eq)]
@@ -40,11 +42,11 @@ impl<'a> Shape<'a> {
         }
     }
 
-    // Whether a shape may be made of these; refused with 10.
+    // Whether a shape may be made of these; refused with 10. Public, and so it stays; `try_new` makes what it has judged.
     pub fn tried(top: u16, fy: u32, breadths: &[u16]) -> Result<(), PartFault>
         ensures { Tried top fy breadths.now result }
     {
-        if top > LOWEST || breadths.len() > (LOWEST - top) as usize {
+        if top > LOWEST || breadths.len() > usize::from(LOWEST - top) {
             return Err(PartFault::OutsideLimits);
         }
         if !(LEAST_YIELD..=GREATEST_YIELD).contains(&fy) {
@@ -71,7 +73,8 @@ impl<'a> Shape<'a> {
         Ok(Shape { top, fy, breadths })
     }
 
-    // The shape of the table, or the empty one where the table is unfit, for a caller who has tried it; `try_new` tells the refusal.
+    // The shape of the table, or the empty one where the table is unfit, for callers who have tried the table; `try_new` tells the refusal. Public, and
+    // so it stays.
     pub fn new(top: u16, fy: u32, breadths: &'a [u16]) -> Shape<'a>
         ensures fit { ShapeFits top fy breadths.now → table_strip result.top result.fy result.breadths.now ≡ table_strip top fy breadths.now }
         ensures unfit { (ShapeFits top fy breadths.now → ⊥) → table_strip result.top result.fy result.breadths.now ≡ no_strips }
@@ -91,31 +94,16 @@ impl Part for Shape<'_> {
         if self.breadths.is_empty() {
             0
         } else {
+            // by `as`: the length is at most 4,096, so nothing is lost, and no `From` narrows
             self.top + self.breadths.len() as u16
         }
     }
 
     fn resultants(&self, _sense: Sense, level: u16) -> Resultants {
-        let level = level.min(LOWEST);
         let mut at = Resultants::default();
-        // by index: over `(self.top..).zip(self.breadths)` the check ties no strip to its place in the table
-        for (i, &breadth) in self.breadths.iter().enumerate() {
-            let strip = self.top + i as u16;
+        for (strip, &breadth) in (self.top..).zip(self.breadths) {
             let force = u64::from(breadth) * u64::from(self.fy);
-            let one = if strip < level {
-                Resultants {
-                    above: force,
-                    below: 0,
-                    moment: force * (2 * u64::from(level - strip) - 1),
-                }
-            } else {
-                Resultants {
-                    above: 0,
-                    below: force,
-                    moment: force * (2 * u64::from(strip - level) + 1),
-                }
-            };
-            at += one;
+            at += Block::new(strip, 1, force).unwrap().resultants(level);
         }
         at
     }

@@ -1,7 +1,7 @@
--- `kinds::deck::Deck::filled` meets its contract.
+-- `kinds::deck::Deck::try_new` meets its contract.
 use Rattle.std.proofs.Common.{arith}
 use Rattle.kinds.proofs.Layers.{put_none, put_more, put_fits, put_bars, put_pushes}
-use Rattle.kinds.proofs.deck.Deck.filled.Goals as goal
+use Rattle.kinds.proofs.deck.Deck.try_new.Goals as goal
 
 pub loop-i-init : goal.loop-i-init
 loop-i-init c = rw c.total-total.ensures (put_none _ _ c.empty-bars.result c.empty-bars.ensures)
