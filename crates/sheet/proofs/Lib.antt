@@ -5,6 +5,7 @@ pub mod Lowering
 pub mod Roles
 pub mod Kept
 pub mod RolePlaces
+pub mod Standing
 pub mod PlateSums
 pub mod MeasuresKept
 pub mod PlateForces

@@ -1,9 +1,13 @@
 -- The force of the plates above a level, one slot after another, and what is left below it.
-use Rattle.std.proofs.Common.{◌≡◌, ℕ, ◌+◌, ◌-◌, ◌*◌, ◌<◌, ◌≤◌, min, true, List, length, get_or, take, Some, None, Option, sym, refl, ap, ◌∙◌, mul-zero, arith, eqb-true}
+use Rattle.std.proofs.Common.{◌≡◌, ℕ, ◌+◌, ◌-◌, ◌*◌, ◌<◌, ◌≤◌, zero, suc, min, true, List, [], ◌∷◌, length, map, sum, slice_index, get_or, take, Some, None, Option, sym, refl, ap, subst, ◌∙◌, mul-zero, arith, eqb-true}
+use Rattle.std.specs.List.{range_with_len}
+use Rattle.std.proofs.lemmas.List.{take_all}
+use Rattle.std.proofs.lemmas.List.FromFn.{map-range_with_len_more}
+use Rattle.std.proofs.lemmas.List.Sums.{sum_by-append}
 use Rattle.section.specs.declared.sense.Sense.{Sense}
 use Rattle.section.specs.declared.sense.Sense.TheVariants.{Sagging, Hogging}
 use Rattle.section.specs.Strips.{sum_to, force_above, force_below, no_strips}
-use Rattle.section.specs.Sums.{sum_to_le, sum_to_split, zeros}
+use Rattle.section.specs.Sums.{sum_to_split, zeros}
 use Rattle.section.specs.Parts.{IsForces}
 use Rattle.section.proofs.Together.{force_above_both, force_above_le}
 use Rattle.section.proofs.ClosedForm.{between, is_above}
@@ -12,9 +16,10 @@ use Rattle.sheet.specs.Plates.{total_force}
 use Rattle.sheet.specs.Invariants.{Within, within, within_in}
 use Rattle.sheet.specs.PlateStrips.{slot_strips, plate_strips}
 use Rattle.sheet.specs.PlateLaws.{foot, strips-sum}
-use Rattle.sheet.specs.Measures.{fits_slot}
+use Rattle.sheet.specs.declared.measures.Measures.{Measures}
+use Rattle.sheet.specs.Measures.{fits_slot, Measured}
 use Rattle.sheet.proofs.MeasuresKept.{whole, read}
-use Rattle.sheet.proofs.PlateSums.{front_le, next}
+use Rattle.sheet.proofs.PlateSums.{next}
 
 -- no strips
 pub above_none : (k : ℕ) → force_above no_strips k ≡ 0
@@ -50,10 +55,33 @@ module _ (xs : List (Option Plate)) (i k : ℕ) (h : i < length xs) where
           let r = read p t a s fits in
           rw (q, r.top_is, r.height_is, r.strength_is, whole p w) (sym (plate_above p level w))
 
--- some of the plates give no more than all of them
-pub above_front : (xs : List (Option Plate)) → Within xs → (n level : ℕ) → force_above (plate_strips (take n xs)) (min level 4096) ≤ total_force xs
-above_front xs inside n level =
-    omega (arith, force_above_le 4096 (plate_strips (take n xs)) (min level 4096) (omega arith), sum_to_le (plate_strips (take n xs)) (plate_strips xs) 4096 (λ i _. front_le n xs i), strips-sum xs inside)
+-- the sum over the slots, by their measures
+abbrev pub measured_above : Measures → ℕ → ℕ → ℕ
+measured_above m level i = slice_index m.strengths i * min (level - slice_index m.tops i) (slice_index m.heights i)
+
+module _ (xs : List (Option Plate)) (m : Measures) (inside : Within xs) (measured : Measured m xs) (level : ℕ) where
+  abbrev SumsTo : ℕ → Type 0
+  SumsTo n = sum (map (measured_above m level) (range_with_len 0 n)) ≡ force_above (plate_strips (take n xs)) (min level 4096)
+
+  first_slots : (n : ℕ) → n ≤ length xs → SumsTo n
+  first_slots zero h = sym (above_none (min level 4096))
+  first_slots (suc n) h =
+      let r = first_slots n (omega arith) in
+      let next : n + 1 ≡ suc n = omega arith in
+      subst SumsTo next
+      (omega (
+        arith,
+        ap sum (map-range_with_len_more (measured_above m level) 0 n n (omega arith)),
+        sum_by-append (λ x. x) (map (measured_above m level) (range_with_len 0 n)) (measured_above m level n ∷ []),
+        above_measured xs n (min level 4096) (omega arith) level _ _ _ refl (inside n) (measured n),
+      ))
+
+  pub every_slot : sum (map (measured_above m level) (range_with_len 0 (length xs))) ≡ force_above (plate_strips xs) (min level 4096)
+  every_slot = first_slots (length xs) (omega arith) ∙ ap (λ ys. force_above (plate_strips ys) (min level 4096)) (take_all (length xs) xs (omega arith))
+
+-- the plates have no more above a level than in all
+pub above_within : (xs : List (Option Plate)) → Within xs → (level : ℕ) → force_above (plate_strips xs) (min level 4096) ≤ total_force xs
+above_within xs inside level = omega (arith, force_above_le 4096 (plate_strips xs) (min level 4096) (omega arith), strips-sum xs inside)
 
 -- what is not above is below
 rest_below : (f : ℕ → ℕ) (k : ℕ) → k ≤ 4096 → sum_to f 4096 - force_above f k ≡ force_below 4096 f k

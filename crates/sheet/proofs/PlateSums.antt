@@ -23,7 +23,7 @@ push : (xs : List (Option Plate)) (x : Option Plate) (i : ℕ) → plate_strips 
 push [] x i = omega arith
 push (y ∷ ys) x i = let r = push ys x i in omega arith
 
-pub front_le : (n : ℕ) (xs : List (Option Plate)) (i : ℕ) → plate_strips (take n xs) i ≤ plate_strips xs i
+front_le : (n : ℕ) (xs : List (Option Plate)) (i : ℕ) → plate_strips (take n xs) i ≤ plate_strips xs i
 front_le zero xs i = omega arith
 front_le (suc n) [] i = omega arith
 front_le (suc n) (x ∷ xs) i = let r = front_le n xs i in omega arith
@@ -43,9 +43,6 @@ block_level p b e k t x s = subst (λ f. IsResultants s f f k t) (block_strips p
 module _ (xs : List (Option Plate)) (i : ℕ) (h : i < length xs) where
   pub next : plate_strips (take (i + 1) xs) ≡ (plate_strips (take i xs) ⊕ slot_strips (get_or xs i None))
   next = ap plate_strips (take_more xs i None h) ∙ fun_ext (λ j. push (take i xs) (get_or xs i None) j)
-
-  pub next_none : get_or xs i None ≡ None → plate_strips (take (i + 1) xs) ≡ plate_strips (take i xs)
-  next_none e = next ∙ ap (λ x. plate_strips (take i xs) ⊕ slot_strips x) e ∙ fun_ext (λ j. let z : plate_strips (take i xs) j + 0 ≡ plate_strips (take i xs) j = omega arith in z)
 
   module _ (p : Plate) (e : get_or xs i None ≡ Some p) where
     next-some : plate_strips (take (i + 1) xs) ≡ (plate_strips (take i xs) ⊕ slot_strips (Some p))

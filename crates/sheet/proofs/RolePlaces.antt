@@ -3,6 +3,8 @@ use Rattle.std.proofs.Common.{◌≡◌, ℕ, zero, suc, ◌+◌, ◌<◌, min, 
 use Rattle.std.specs.List.{position, position_from}
 use Rattle.std.specs.Option.{option_map}
 use Rattle.std.proofs.lemmas.Iterator.Adapters.{position_from-zero}
+use denote.Enum.Bare.{sameb}
+use Rattle.sheet.specs.contracts.plate.Role.{the_type}
 use Rattle.sheet.specs.declared.plate.Role.{Role}
 use Rattle.sheet.specs.declared.plate.Role.TheVariants.{TopFlange, Web, BottomFlange, Other}
 use Rattle.sheet.specs.declared.plate.Plate.{Plate}
@@ -29,6 +31,13 @@ read_note s xs all r = same_is (noted r s) (slot_with r xs) (all r)
 
 pub make_note : (s : RoleSlots) (xs : List (Option Plate)) → ((r : Role) → noted r s ≡ slot_with r xs) → Noted s xs
 make_note s xs all r = subst (λ (o : Option ℕ). same_slot (noted r s) o ≡ true) (all r) (same_self (noted r s))
+
+-- nothing noted
+pub unnoted : (s : RoleSlots) → (s.top_flange ≡ None) × ((s.web ≡ None) × (s.bottom_flange ≡ None)) → (r : Role) → noted r s ≡ None
+unnoted s e TopFlange = e.0
+unnoted s e Web = e.1.0
+unnoted s e BottomFlange = e.1.1
+unnoted s e Other = refl
 
 pub slot-empties : (r : Role) (n : ℕ) → slot_with r (empties n) ≡ None
 slot-empties r zero = refl
@@ -83,11 +92,11 @@ here_or_later : (b : Bool) (p : Plate) (xs : List (Option Plate)) (o : Option �
 here_or_later true p xs o y e = refl
 here_or_later false p xs o y e = e ∙ sym (at_next (Some p) xs o)
 
-pub single : (r : Role) → (r ≡ Other → ⊥) → clash r r ≡ true
-single TopFlange n = refl
-single Web n = refl
-single BottomFlange n = refl
-single Other n = absurd (n refl)
+pub single : (r : Role) → sameb the_type r Other ≡ false → clash r r ≡ true
+single TopFlange e = refl
+single Web e = refl
+single BottomFlange e = refl
+single Other e = absurd (tests.clash (sym e))
 
 -- the plate of role 1, 2 or 3 is the one in the role's slot
 pub standing-slot : (r : Role) → clash r r ≡ true → (xs : List (Option Plate)) → standing r xs ≡ at_slot xs (slot_with r xs)

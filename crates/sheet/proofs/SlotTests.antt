@@ -1,12 +1,13 @@
--- The first standing plate of a role, looked for one slot after another.
-use Rattle.std.proofs.Common.{◌≡◌, ℕ, ◌+◌, ◌<◌, Bool, true, false, cond, List, ◌∷◌, length, get_or, drop, Some, None, Option, refl, ap, ◌∙◌}
-use Rattle.std.proofs.lemmas.List.{drop_more}
+-- What is asked of the standing plates: the first of a role, and whether one passes when lowered.
+use Rattle.std.proofs.Common.{◌≡◌, ℕ, ◌||◌, cond, List, [], ◌∷◌, Some, None, Option, refl, ap}
+use Rattle.std.specs.List.{find, list_any}
 use denote.Enum.Bare.{sameb}
 use Rattle.sheet.specs.contracts.plate.Role.{the_type}
 use Rattle.sheet.specs.declared.plate.Role.{Role}
 use Rattle.sheet.specs.declared.plate.Role.TheVariants.{TopFlange, Web, BottomFlange, Other}
 use Rattle.sheet.specs.declared.plate.Plate.{Plate}
-use Rattle.sheet.specs.Plates.{same_role, standing}
+use Rattle.sheet.specs.Plates.{same_role, standing, passes_in, passes}
+use Rattle.sheet.proofs.Standing.{plates_in}
 
 -- roles are equal where their numbers are
 pub role_test : (a b : Role) → sameb the_type a b ≡ same_role a b
@@ -27,15 +28,14 @@ role_test Other Web = refl
 role_test Other BottomFlange = refl
 role_test Other Other = refl
 
-module _ (r : Role) (xs : List (Option Plate)) (i : ℕ) where
-  from_here : (h : i < length xs) (x : Option Plate) → get_or xs i None ≡ x → standing r (drop i xs) ≡ standing r (x ∷ drop (i + 1) xs)
-  from_here h x e = ap (standing r) (drop_more xs i None h) ∙ ap (λ (y : Option Plate). standing r (y ∷ drop (i + 1) xs)) e
+-- the first of a role among the plates in the slots
+pub standing_found : (r : Role) (xs : List (Option Plate)) → find (λ p. same_role p.role r) (plates_in xs) ≡ standing r xs
+standing_found r [] = refl
+standing_found r (None ∷ xs) = standing_found r xs
+standing_found r (Some p ∷ xs) = ap (cond (same_role p.role r) (Some p)) (standing_found r xs)
 
-  pub standing_here : (p : Plate) → i < length xs → get_or xs i None ≡ Some p → same_role p.role r ≡ true → standing r (drop i xs) ≡ Some p
-  standing_here p h e t = from_here h (Some p) e ∙ ap (λ (b : Bool). cond b (Some p) (standing r (drop (i + 1) xs))) t
-
-  pub standing_other : (p : Plate) → i < length xs → get_or xs i None ≡ Some p → same_role p.role r ≡ false → standing r (drop i xs) ≡ standing r (drop (i + 1) xs)
-  standing_other p h e t = from_here h (Some p) e ∙ ap (λ (b : Bool). cond b (Some p) (standing r (drop (i + 1) xs))) t
-
-  pub standing_none : i < length xs → get_or xs i None ≡ None → standing r (drop i xs) ≡ standing r (drop (i + 1) xs)
-  standing_none h e = from_here h None e
+-- whether one of the plates in the slots passes, lowered by n
+pub passes_found : (n : ℕ) (xs : List (Option Plate)) → list_any (λ p. passes_in n (Some p)) (plates_in xs) ≡ passes n xs
+passes_found n [] = refl
+passes_found n (None ∷ xs) = passes_found n xs
+passes_found n (Some p ∷ xs) = ap (λ b. passes_in n (Some p) || b) (passes_found n xs)

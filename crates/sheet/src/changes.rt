@@ -10,7 +10,6 @@ use crate::plate::{Plate, PlateInput};
 use crate::plates::Plates;
 use crate::row::Row;
 use crate::rows::Rows;
-use crate::slot::Slot;
 use faults::{SheetFault, SheetReason};
 use loads::{Effect, LoadType};
 use section::STRONGEST;
@@ -41,7 +40,9 @@ impl Sheet {
         ensures answer { Answers (ledger self.old) (calls.lift slot) result }
         ensures slots { ledger self.new ≡ after (ledger self.old) (calls.lift slot) }
     {
-        self.try_lift(slot).map_err(|fault| fault.at_slot(slot))
+        let slot = self.plates.slots.full(slot)?;
+        self.plates.take_out(slot);
+        Ok(())
     }
 
     // Adds n to the top of every standing plate; refused with 9.
@@ -70,22 +71,18 @@ impl Sheet {
         ensures answer { Answers (ledger self.old) (calls.strike slot) result }
         ensures slots { ledger self.new ≡ after (ledger self.old) (calls.strike slot) }
     {
-        self.try_strike(slot).map_err(|fault| fault.at_slot(slot))
+        let slot = self.rows.slots.full(slot)?;
+        self.rows.take_out(slot);
+        Ok(())
     }
 
-    // What is judged and kept of plates and of rows differs. Lifting and striking differ in the table alone; one function of both would take a
-    // trait of tables with its laws, for three lines.
-
-    // The calls below make the changes; their faults need not name the slot yet.
+    // `place` and `enter` add the slot behind the two below: added at each refusal it would stand three times, and be no plainer.
 
     fn try_place(&mut self, slot: u8, plate: PlateInput) -> Result<(), SheetFault>
         ensures answer { Refuses (ledger self.old) (calls.place slot plate) result }
         ensures slots { ledger self.new ≡ after (ledger self.old) (calls.place slot plate) }
     {
-        let slot = Slot::new(slot)?;
-        if self.plates.slots.get(slot).is_some() {
-            return Err(SheetFault::new(SheetReason::SlotFull));
-        }
+        let slot = self.plates.slots.free(slot)?;
         let plate = Plate::try_from(plate)?;
         if self.plates.has_role(plate.role) {
             return Err(SheetFault::new(SheetReason::RoleStands));
@@ -97,26 +94,11 @@ impl Sheet {
         Ok(())
     }
 
-    fn try_lift(&mut self, slot: u8) -> Result<(), SheetFault>
-        ensures answer { Refuses (ledger self.old) (calls.lift slot) result }
-        ensures slots { ledger self.new ≡ after (ledger self.old) (calls.lift slot) }
-    {
-        let slot = Slot::new(slot)?;
-        if self.plates.slots.get(slot).is_none() {
-            return Err(SheetFault::new(SheetReason::SlotEmpty));
-        }
-        self.plates.take_out(slot);
-        Ok(())
-    }
-
     fn try_enter(&mut self, slot: u8, load: LoadType, effect: Effect) -> Result<(), SheetFault>
         ensures answer { Refuses (ledger self.old) (calls.enter slot load (kind_of effect) (judged (value_of effect))) result }
         ensures slots { ledger self.new ≡ after (ledger self.old) (calls.enter slot load (kind_of effect) (judged (value_of effect))) }
     {
-        let slot = Slot::new(slot)?;
-        if self.rows.slots.get(slot).is_some() {
-            return Err(SheetFault::new(SheetReason::SlotFull));
-        }
+        let slot = self.rows.slots.free(slot)?;
         let sixteenths = effect.sixteenths()?;
         self.rows.put(
             slot,
@@ -126,18 +108,6 @@ impl Sheet {
                 sixteenths,
             },
         );
-        Ok(())
-    }
-
-    fn try_strike(&mut self, slot: u8) -> Result<(), SheetFault>
-        ensures answer { Refuses (ledger self.old) (calls.strike slot) result }
-        ensures slots { ledger self.new ≡ after (ledger self.old) (calls.strike slot) }
-    {
-        let slot = Slot::new(slot)?;
-        if self.rows.slots.get(slot).is_none() {
-            return Err(SheetFault::new(SheetReason::SlotEmpty));
-        }
-        self.rows.take_out(slot);
         Ok(())
     }
 }

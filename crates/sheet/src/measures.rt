@@ -18,6 +18,7 @@ pub struct Measures {
 }
 
 impl Measures {
+    // By hand: a struct with ghost fields derives no `Default`.
     pub(crate) fn new() -> Measures
         ensures { result.heights ≡ replicate 24 0 }
     {
@@ -57,7 +58,7 @@ impl Measures {
         }
     }
 
-    // The force of a slot's strips above a level.
+    // The force of a slot's strips above a level. By index: a sum over the slots counts them, and would make a `Slot` of each, which is no plainer.
     pub(crate) fn force_above(&self, slot: usize, level: u16) -> u64
         requires { slot < 24 }
         ensures { result ≡ slice_index self.now.strengths slot * min (level - slice_index self.now.tops slot) (slice_index self.now.heights slot) }

@@ -2,6 +2,7 @@
 // the yield strength `fy` is in psi.
 ghost use Rattle.std.specs.Prelude.{◌≡◌, Some};
 ghost use Rattle.sheet.specs.Plates as plates;
+ghost use Rattle.sheet.specs.Invariants.{within};
 
 use faults::{SheetFault, SheetReason};
 use section::{BROADEST, GREATEST_YIELD, LEAST_YIELD, LOWEST};
@@ -9,9 +10,10 @@ use section::{BROADEST, GREATEST_YIELD, LEAST_YIELD, LOWEST};
 // The greatest breadth of a web.
 const BROADEST_WEB: u16 = 64;
 
+// By the numbers 1 to 4.
 #[derive(Clone, Copy, Debug, PartialEq, Eq)]
 pub enum Role {
-    TopFlange,
+    TopFlange = 1,
     Web,
     BottomFlange,
     Other,
@@ -27,7 +29,8 @@ pub struct Plate {
 }
 
 // A plate as it is handed over: its role by number, and nothing judged yet. A number that is no role's is refused as a measure outside its
-// limits is, and after the slot has been judged.
+// limits is, and after the slot has been judged. A struct of its own: public, and so it
+// stays; with a `Plate<u8>` every other use would say `Plate<Role>`, and be no plainer.
 #[derive(Clone, Copy, Debug, PartialEq, Eq)]
 pub struct PlateInput {
     pub role: u8,
@@ -41,12 +44,7 @@ impl From<Role> for u8 {
     ghost from_gives = { λ role n. n ≡ plates.role_number role };
 
     fn from(role: Role) -> u8 {
-        match role {
-            Role::TopFlange => 1,
-            Role::Web => 2,
-            Role::BottomFlange => 3,
-            Role::Other => 4,
-        }
+        role as u8
     }
 }
 
@@ -77,20 +75,11 @@ impl Role {
 }
 
 impl PlateInput {
-    // Whether its role, measures and yield are within their limits.
+    // Whether its role, measures and yield are within their limits. Public, and so it stays.
     pub fn is_lawful(&self) -> bool
         ensures { result ≡ plates.is_lawful self.now }
     {
-        let has_role = Role::try_from(self.role).is_ok();
-        // comparisons: with ranges and `contains` the check of this test gave up at a limit
-        let sized = 1 <= self.breadth
-            && self.breadth <= BROADEST
-            && 1 <= self.height
-            && self.height <= LOWEST;
-        let above_end = u32::from(self.top) + u32::from(self.height) <= u32::from(LOWEST);
-        let yields = LEAST_YIELD <= self.fy && self.fy <= GREATEST_YIELD;
-        let slender = self.role != u8::from(Role::Web) || self.breadth <= BROADEST_WEB;
-        has_role & sized & above_end & yields & slender
+        Plate::try_from(*self).is_ok()
     }
 }
 
@@ -101,20 +90,36 @@ impl TryFrom<PlateInput> for Plate {
     ghost try_from_gives = { plates.ReadsPlate };
 
     fn try_from(input: PlateInput) -> Result<Plate, SheetFault> {
-        if !input.is_lawful() {
-            return Err(SheetFault::new(SheetReason::PlateLimits));
-        }
-        Ok(Plate {
+        let plate = Plate {
             role: Role::try_from(input.role)?,
             top: input.top,
             breadth: input.breadth,
             height: input.height,
             fy: input.fy,
-        })
+        };
+        if !plate.is_within_limits() {
+            return Err(SheetFault::new(SheetReason::PlateLimits));
+        }
+        Ok(plate)
     }
 }
 
 impl Plate {
+    // Whether its measures and yield are within their limits.
+    fn is_within_limits(&self) -> bool
+        ensures { result ≡ within self.now }
+    {
+        // comparisons and `&` (tried: with ranges and `contains`, or with `&&` between the four tests, the proof did not close)
+        let sized = 1 <= self.breadth
+            && self.breadth <= BROADEST
+            && 1 <= self.height
+            && self.height <= LOWEST;
+        let yields = LEAST_YIELD <= self.fy && self.fy <= GREATEST_YIELD;
+        let slender = self.role != Role::Web || self.breadth <= BROADEST_WEB;
+        let above_end = u32::from(self.top) + u32::from(self.height) <= u32::from(LOWEST);
+        sized & yields & slender & above_end
+    }
+
     // The force at which the whole plate yields, breadth × height × yield.
     pub fn force(&self) -> u64
         ensures { result ≡ plates.force self.now }

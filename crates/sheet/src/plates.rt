@@ -39,7 +39,7 @@ impl Plates {
         Plates {
             slots: Slots::empty(),
             total: 0,
-            roles: RoleSlots::new(),
+            roles: RoleSlots::default(),
             measures: Measures::new(),
         }
     }
@@ -86,7 +86,7 @@ impl Plates {
     pub(crate) fn with_role(&self, role: Role) -> Option<Plate>
         ensures { result ≡ standing role self.now.slots.items }
     {
-        if let Role::Other = role {
+        if role == Role::Other {
             return self.first_with(role);
         }
         let slot = self.roles.get(role)?;
@@ -97,15 +97,12 @@ impl Plates {
     fn first_with(&self, role: Role) -> Option<Plate>
         ensures { result ≡ standing role self.now.slots.items }
     {
-        // a loop: the proof over `find_map` did not close
-        for slot in &self.slots.items {
-            if let Some(plate) = slot {
-                if plate.role == role {
-                    return Some(*plate);
-                }
-            }
-        }
-        None
+        self.slots
+            .items
+            .iter()
+            .flatten()
+            .find(|plate| plate.role == role)
+            .copied()
     }
 
     // Whether a standing plate would pass level 4,096, lowered by n.
@@ -115,7 +112,8 @@ impl Plates {
         self.slots
             .items
             .iter()
-            .any(|slot| slot.is_some_and(|plate| plate.would_pass(n)))
+            .flatten()
+            .any(|plate| plate.would_pass(n))
     }
 
     // Adds n to the top of every standing plate.
@@ -124,7 +122,7 @@ impl Plates {
         ensures { self.new.slots.items ≡ lowered n self.old.slots.items }
     {
         self.measures.lower(n);
-        // slot by slot, since the proof speaks of the slot that each plate lies in
+        // slot by slot (tried: after `iter_mut().flatten()` the check knows nothing of what was written)
         for slot in self.slots.items.iter_mut() {
             if let Some(plate) = slot {
                 plate.top += n;

@@ -30,33 +30,27 @@ impl Part for Sheet {
     ghost laws = { plates_laws };
 
     fn depth(&self) -> u16 {
-        // loops here and below: that each plate is within the sheet's limits, which `block` asks, did not go through a chain's closure
         let mut deepest = 0;
-        for slot in &self.plates.slots.items {
-            if let Some(plate) = slot {
-                deepest = plate.block().depth().max(deepest);
-            }
+        for plate in self.plates.slots.items.iter().flatten() {
+            deepest = plate.block().depth().max(deepest);
         }
         deepest
     }
 
     fn resultants(&self, _sense: Sense, level: u16) -> Resultants {
         let mut sum = Resultants::default();
-        for slot in &self.plates.slots.items {
-            if let Some(plate) = slot {
-                sum += plate.block().resultants(level);
-            }
+        for plate in self.plates.slots.items.iter().flatten() {
+            sum += plate.block().resultants(level);
         }
         sum
     }
 
     // What is not above the level is below it.
     fn forces(&self, _sense: Sense, level: u16) -> Forces {
-        let mut above = 0;
-        // by index: the measures lie in three arrays, of which a zip would be no plainer
-        for slot in 0..24 {
-            above += self.plates.measures.force_above(slot, level);
-        }
+        // by the slots' indices: a zip of the measures' three arrays would be no plainer
+        let above: u64 = (0..24)
+            .map(|slot| self.plates.measures.force_above(slot, level))
+            .sum();
         Forces {
             above,
             below: self.plates.total_force() - above,

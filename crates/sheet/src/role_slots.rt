@@ -1,12 +1,13 @@
-// The slots in which the plates of roles 1, 2 and 3 stand: kept beside the plates, so that placing one has no loop.
-ghost use Rattle.std.specs.Prelude.{◌≡◌, if◌then◌else◌, None};
+// The slots in which the plates of roles 1, 2 and 3 stand: kept beside the plates, so that placing one has no loop. Bare indices, as a search for a
+// plate gives them: a `Slot` would have to be made of each, which is no plainer.
+ghost use Rattle.std.specs.Prelude.{◌≡◌, if◌then◌else◌};
 ghost use Rattle.sheet.specs.declared.plate.Role.{Role as Roles};
 ghost use Rattle.sheet.specs.Plates.{clash};
 ghost use Rattle.sheet.specs.RoleSlots.{noted, earlier};
 
 use crate::plate::Role;
 
-#[derive(Clone, Copy)]
+#[derive(Clone, Copy, Default)]
 pub struct RoleSlots {
     top_flange: Option<usize>,
     web: Option<usize>,
@@ -14,16 +15,6 @@ pub struct RoleSlots {
 }
 
 impl RoleSlots {
-    pub(crate) fn new() -> RoleSlots
-        ensures { (r : Roles) → noted r result ≡ None }
-    {
-        RoleSlots {
-            top_flange: None,
-            web: None,
-            bottom_flange: None,
-        }
-    }
-
     // The slot of a role; none for other plates, of which several may stand.
     pub(crate) fn get(&self, role: Role) -> Option<usize>
         ensures { result ≡ noted role self.now }
@@ -40,10 +31,7 @@ impl RoleSlots {
     pub(crate) fn first(&self, role: Role, slot: usize) -> usize
         ensures { result ≡ earlier slot (noted role self.now) }
     {
-        match self.get(role) {
-            Some(first) => first.min(slot),
-            None => slot,
-        }
+        self.get(role).map_or(slot, |first| first.min(slot))
     }
 
     // Notes where the plate of a role stands, or that none does; other plates are not noted.

@@ -14,7 +14,8 @@ use loads::EffectKind;
 #[derive(Drop)]
 pub struct Rows {
     pub(crate) slots: Slots<Row, 64>,
-    // the sums of the standing rows of each kind, for each load type by its index; two fields, since a call asks for one kind's four
+    // the sums of the standing rows of each kind, for each load type by its index; two fields, since a call asks for one kind's four, and both are added
+    // to, one of them 0: a `match` over the kind would be no plainer
     moments: [i64; 4],
     shears: [i64; 4],
     ghost small: { Small slots.items },
@@ -33,6 +34,7 @@ impl Rows {
         }
     }
 
+    // Beside `put` and `take_out` of `Plates`: what they keep differs, and a trait of both tables, for one call in each change, would be no plainer.
     pub(crate) fn put(&mut self, slot: Slot<64>, row: Row)
         ensures { self.new.slots.items ≡ slice_set self.old.slots.items slot.index (Some row) }
     {

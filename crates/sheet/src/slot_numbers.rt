@@ -5,7 +5,7 @@ use crate::slot::Slot;
 use faults::{SheetFault, SheetReason};
 
 impl<const N: usize> Slot<N> {
-    // The slot of this number, from 0 on; refused with 1 past the last one. `new` and no `TryFrom`, as the one way to make a slot.
+    // The slot of this number, from 0 on; refused with 1 past the last one. `Slot::new(n)?` and no `TryFrom`, which would say the same and be no plainer.
     pub(crate) fn new(number: u8) -> Result<Slot<N>, SheetFault>
         ensures { Numbers N number result }
     {

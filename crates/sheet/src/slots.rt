@@ -1,8 +1,10 @@
 // The slots of one kind.
 ghost use Rattle.std.specs.Prelude.{◌≡◌, length, slice_set};
 ghost use Rattle.sheet.specs.Slots.{empties, content};
+ghost use Rattle.sheet.specs.SlotNumbers.{FindsFree, FindsFull};
 
 use crate::slot::Slot;
+use faults::{SheetFault, SheetReason};
 
 // N slots, each of which holds one thing or nothing.
 #[derive(Drop)]
@@ -22,6 +24,28 @@ impl<T: Copy, const N: usize> Slots<T, N> {
         ensures { result ≡ content self.now.items slot.entry.index }
     {
         self.items[slot.index]
+    }
+
+    // The slot of this number, where it is free; refused with 1 or 2.
+    pub(crate) fn free(&self, number: u8) -> Result<Slot<N>, SheetFault>
+        ensures { FindsFree N self.now.items number result }
+    {
+        let slot = Slot::new(number)?;
+        if self.get(slot).is_some() {
+            return Err(SheetFault::new(SheetReason::SlotFull).at_slot(number));
+        }
+        Ok(slot)
+    }
+
+    // The slot of this number, where something stands in it; refused with 1 or 3.
+    pub(crate) fn full(&self, number: u8) -> Result<Slot<N>, SheetFault>
+        ensures { FindsFull N self.now.items number result }
+    {
+        let slot = Slot::new(number)?;
+        if self.get(slot).is_none() {
+            return Err(SheetFault::new(SheetReason::SlotEmpty).at_slot(number));
+        }
+        Ok(slot)
     }
 
     pub(crate) fn set(&mut self, slot: Slot<N>, held: Option<T>)

@@ -13,7 +13,7 @@ returns c =
     let s = c.args.self.now in
     let role = c.args.role in
     ap (at_slot s.slots.items) (sym c.in_ok-slot.was ∙ c.get.ensures ∙ read_note s.roles s.slots.items s.placed role)
-    ∙ sym (standing-slot role (single role c.in_default.not-Other) s.slots.items)
+    ∙ sym (standing-slot role (single role (sym c.if-eq.ensures)) s.slots.items)
 
 pub returns-in_err-slot : goal.returns-in_err-slot
 returns-in_err-slot c =
@@ -21,7 +21,7 @@ returns-in_err-slot c =
     let role = c.args.role in
     c.from_residual.ensures
     ∙ ap (at_slot s.slots.items) (sym c.in_err-slot.was ∙ c.get.ensures ∙ read_note s.roles s.slots.items s.placed role)
-    ∙ sym (standing-slot role (single role c.in_default.not-Other) s.slots.items)
+    ∙ sym (standing-slot role (single role (sym c.if-eq.ensures)) s.slots.items)
 
 pub offset_bounds-self-slot : goal.offset_bounds-self-slot
 offset_bounds-self-slot c =

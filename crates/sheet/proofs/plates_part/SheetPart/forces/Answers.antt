@@ -1,33 +1,32 @@
 -- `sheet::plates_part::SheetPart::forces` meets its contract.
-use Rattle.std.proofs.Common.{◌+◌, ◌<◌, ◌≤◌, min, length, sym, refl, ap, ◌∙◌, arith}
-use Rattle.std.proofs.lemmas.List.{take_all}
+use Rattle.std.proofs.Common.{rules, tests, ◌≡◌, min, length, sym, ◌∙◌, arith}
+use Rattle.std.proofs.lemmas.Iterator.{YieldsList-from_range, YieldsList-from_map}
+use Rattle.std.proofs.lemmas.Iterator.Consumers.{fits_from_yields_list, sum_from_yields_List}
 use Rattle.section.specs.Strips.{force_above}
 use Rattle.sheet.specs.PlateStrips.{plate_strips}
-use Rattle.sheet.proofs.PlateForces.{above_none, above_measured, above_front, forces_alike}
+use Rattle.sheet.proofs.PlateForces.{measured_above, every_slot, above_within, forces_alike}
 use Rattle.sheet.proofs.plates_part.SheetPart.forces.Goals as goal
 
-pub loop-slot-init : goal.loop-slot-init
-loop-slot-init c = sym (above_none (min c.args.level 4096))
-
-pub overflow_add-above : goal.overflow_add-above
-overflow_add-above c =
+pub sum-above-requires-clause-fits : goal.sum-above-requires-clause-fits
+sum-above-requires-clause-fits c =
     let p = c.args.self.now.plates in
-    let i = c.loop-slot.slot in
-    let h : i < length p.slots.items = omega (arith, p.slots.long) in
-    omega (arith, c.loop-slot.invariant, c.force_above-above.ensures, above_measured p.slots.items i (min c.args.level 4096) h c.args.level _ _ _ refl (c.args.self.now.within i) (p.measured i), above_front p.slots.items c.args.self.now.within (i + 1) c.args.level, c.args.self.now.light)
+    let xs = p.slots.items in
+    let within = c.args.self.now.within in
+    let light = c.args.self.now.light in
+    fits_from_yields_list c.map.result _
+    (YieldsList-from_map _ (measured_above p.measures c.args.level) (YieldsList-from_range 0 24 (length xs) c.map.ensures.source (sym p.slots.long)) c.map.ensures.closure (λ x r q k. search (rules, tests)))
+    (omega (arith, light, every_slot xs p.measures within p.measured c.args.level, above_within xs within c.args.level))
 
-pub loop-slot-preserved : goal.loop-slot-preserved
-loop-slot-preserved c =
+above_is : (c : goal.After-total_force) → c.sum-above.result ≡ force_above (plate_strips c.args.self.now.plates.slots.items) (min c.args.level 4096)
+above_is c =
     let p = c.args.self.now.plates in
-    let i = c.loop-slot.slot in
-    let h : i < length p.slots.items = omega (arith, p.slots.long) in
-    omega (arith, c.loop-slot.invariant, c.force_above-above.ensures, above_measured p.slots.items i (min c.args.level 4096) h c.args.level _ _ _ refl (c.args.self.now.within i) (p.measured i))
+    let xs = p.slots.items in
+    sum_from_yields_List c.map.result c.sum-above.result c.sum-above.ensures.ran
+    (YieldsList-from_map _ (measured_above p.measures c.args.level) (YieldsList-from_range 0 24 (length xs) c.map.ensures.source (sym p.slots.long)) c.map.ensures.closure (λ x r q k. search (rules, tests)))
+    ∙ every_slot xs p.measures c.args.self.now.within p.measured c.args.level
 
 pub overflow_sub-result : goal.overflow_sub-result
-overflow_sub-result c = omega (arith, c.loop-slot.invariant, c.total_force.ensures, above_front c.args.self.now.plates.slots.items c.args.self.now.within c.loop-slot.slot c.args.level)
+overflow_sub-result c = omega (arith, above_is c, c.total_force.ensures, above_within c.args.self.now.plates.slots.items c.args.self.now.within c.args.level)
 
 pub returns : goal.returns
-returns c =
-    let xs = c.args.self.now.plates.slots.items in
-    let all : length xs ≤ c.loop-slot.slot = omega (arith, c.args.self.now.plates.slots.long) in
-    forces_alike xs c.args.self.now.within c.args.level c.loop-slot.above c.total_force.result (c.loop-slot.invariant ∙ ap (λ ys. force_above (plate_strips ys) (min c.args.level 4096)) (take_all c.loop-slot.slot xs all)) c.total_force.ensures c.args._sense
+returns c = forces_alike c.args.self.now.plates.slots.items c.args.self.now.within c.args.level c.sum-above.result c.total_force.result (above_is c) c.total_force.ensures c.args._sense

@@ -1,9 +1,16 @@
-use Rattle.std.proofs.Common.{min, take}
+use Rattle.std.proofs.Common.{min, take, length}
+use Rattle.std.proofs.lemmas.Iterator.{YieldsList}
 use Rattle.section.specs.declared.sense.Sense.{Sense}
 use Rattle.section.specs.Parts.{IsResultants}
 use Rattle.sheet.specs.PlateStrips.{plate_strips}
+use Rattle.sheet.proofs.Standing.{plates_in, full_slots}
 use Rattle.sheet.proofs.plates_part.SheetPart.resultants.Given as goal
 
-abbrev pub invariant-loop-slot : goal.invariant-loop-slot
-invariant-loop-slot l =
-    (sense : Sense) → IsResultants sense (plate_strips (take l.slot-index l.self.plates.slots.items)) (plate_strips (take l.slot-index l.self.plates.slots.items)) (min l.level 4096) l.sum
+abbrev pub invariant-loop-plate : goal.invariant-loop-plate
+invariant-loop-plate l =
+    let xs = l.self.plates.slots.items in
+    let f = plate_strips (take (length l.yielded) (full_slots xs)) in
+    record {
+      road : YieldsList (goal.iterator-loop-plate).next_gives (λ p. p.now) l.initial.plate-iterator (plates_in xs);
+      so_far : (sense : Sense) → IsResultants sense f f (min l.level 4096) l.sum;
+    }

@@ -1,9 +1,9 @@
--- `sheet::held::Sheet::try_lift` meets its contract.
+-- `sheet::held::Sheet::lift` meets its contract.
 use Rattle.std.proofs.Common.{◌<◌, length, sym, subst, arith}
 use Rattle.sheet.specs.Invariants.{Light, Within, Once}
 use Rattle.sheet.proofs.Kept.{light_lift, within-lift}
 use Rattle.sheet.proofs.Roles.{once_lift}
-use Rattle.sheet.proofs.held.Sheet.try_lift.Goals as goal
+use Rattle.sheet.proofs.held.Sheet.lift.Goals as goal
 
 pub invariant_of-self : goal.invariant_of-self
 invariant_of-self c =
