@@ -1,5 +1,5 @@
 -- A sum's products with the factors of a range, in order and in size.
-use Rattle.std.proofs.Common.{◌≡◌, ℕ, suc, ◌*◌, ◌^◌, ◌≤◌, Bool, true, false, cond, ℤ, pos, negsuc, ◌+ℤ◌, nat_abs, ◌≤ℤ◌, refl, ap, ◌∙◌, subst, mul-le-mul_right, mul-le-mul, arith, to_z-of_z, w64, SFits, to_z, of_z}
+use Rattle.std.proofs.Common.{◌≡◌, ℕ, suc, ◌*◌, ◌^◌, ◌≤◌, Bool, true, false, cond, ℤ, pos, negsuc, ◌+ℤ◌, nat_abs, ◌≤ℤ◌, refl, ap, ◌∙◌, sym, subst, mul-le-mul_right, mul-le-mul, arith, to_z-of_z, w64, SFits, to_z, of_z}
 use lib.Signed.{lt_z}
 use Rattle.sheet.proofs.Sums.{halves}
 use borrow.Author.Differences.{ints}
@@ -98,11 +98,11 @@ module _ (a b c d : ℤ) (p : Small a) (q : Small b) (r : Small c) (s : Small d)
   pub four_back : bits (bits (bits (bits a +ℤ bits b) +ℤ bits c) +ℤ bits d) ≡ a +ℤ b +ℤ c +ℤ d
   four_back = ap bits four_is ∙ to_z-of_z four
 
-  -- the same of a call's result
-  pub total_is : (z : ℤ) → z ≡ bits a +ℤ bits b +ℤ bits c +ℤ bits d → bits z ≡ a +ℤ b +ℤ c +ℤ d
-  total_is z e =
-      let g : z ≡ a +ℤ b +ℤ c +ℤ d = e ∙ (λ i. small_bits a p i +ℤ small_bits b q i +ℤ small_bits c r i +ℤ small_bits d s i) in
-      ap bits g ∙ to_z-of_z four
+  pub three_fits : SFits w64 (bits (bits a +ℤ bits b) +ℤ bits c)
+  three_fits = subst (SFits w64) (sym three_is) three
+
+  pub four_fits : SFits w64 (bits (bits (bits a +ℤ bits b) +ℤ bits c) +ℤ bits d)
+  four_fits = subst (SFits w64) (sym four_is) four
 
 pub sum_bits : (z : ℤ) → nat_abs z ≤ 2 ^ 37 → bits z ≡ z
 sum_bits z h = let k = halves z (2 ^ 37) h in to_z-of_z {w = w64} (omega (arith, ints))

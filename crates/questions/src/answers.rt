@@ -4,23 +4,18 @@ ghost use Rattle.questions.specs.Bending.{verdict_number};
 
 #[derive(Clone, Copy, Debug, PartialEq, Eq)]
 pub enum Verdict {
-    Carries,
+    Carries = 0,
     NotCompact,
     Brittle,
     TooWeak,
 }
 
 impl Verdict {
-    // The published number, told by that name as a fault's is.
+    // The published number. Public, and so it stays.
     pub fn number(self) -> u8
         ensures { result ≡ verdict_number self }
     {
-        match self {
-            Verdict::Carries => 0,
-            Verdict::NotCompact => 1,
-            Verdict::Brittle => 2,
-            Verdict::TooWeak => 3,
-        }
+        self as u8
     }
 }
 
@@ -44,7 +39,7 @@ pub struct Resistance {
     pub ductile: bool,
 }
 
-// Holds no `Resistance`: what is compact and ductile the verdict tells, and callers read its figures as `b.mn`.
+// Holds no `Resistance`: its two findings are judged in the verdict, and `b.found.mn` for `b.mn` would be no plainer.
 #[derive(Clone, Copy, Debug, PartialEq, Eq)]
 pub struct Bending {
     pub level: u16,

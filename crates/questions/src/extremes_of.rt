@@ -14,16 +14,16 @@ pub fn extremes(sheet: &Sheet, state: &LimitState, kind: EffectKind) -> Extremes
     ensures answer { IsExtremes state.now.factors kind (ledger sheet.now).rows result }
     ensures only { OnlyExtremes state.now.factors kind (ledger sheet.now).rows result }
 {
-    // A type's factor goes to all its rows, so each type's extremes come from its sum alone.
-    // Type by type, as the four sums come.
+    // A type's factor goes to all its rows, so each type's extremes come from its sum alone. Four calls: a list of the load types beside the sums,
+    // to go over both, would be no plainer.
     let [dc, dw, ll, ws] = sheet.type_sums(kind);
     let dc = type_extremes(state, LoadType::Dc, dc);
     let dw = type_extremes(state, LoadType::Dw, dw);
     let ll = type_extremes(state, LoadType::Ll, ll);
     let ws = type_extremes(state, LoadType::Ws, ws);
     Extremes {
-        low: sum_of(dc.low, dw.low, ll.low, ws.low),
-        high: sum_of(dc.high, dw.high, ll.high, ws.high),
+        low: dc.low + dw.low + ll.low + ws.low,
+        high: dc.high + dw.high + ll.high + ws.high,
     }
 }
 
@@ -41,12 +41,4 @@ fn type_extremes(state: &LimitState, load: LoadType, sum: i64) -> Extremes
         low: at_low.min(at_high),
         high: at_low.max(at_high),
     }
-}
-
-// As a sum over an array it would not be shorter: `sum` of signed numbers states no bound, and a loop wants one for each partial sum.
-fn sum_of(dc: i64, dw: i64, ll: i64, ws: i64) -> i64
-    requires { (Small dc) × ((Small dw) × ((Small ll) × (Small ws))) }
-    ensures { result ≡ dc +ℤ dw +ℤ ll +ℤ ws }
-{
-    dc + dw + ll + ws
 }

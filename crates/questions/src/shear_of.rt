@@ -58,17 +58,15 @@ fn buckling(height: u16, spacing: Option<u16>) -> Result<u64, QuestionFault>
     requires { 1 ≤ height }
     ensures { BucklingAnswer height spacing result }
 {
-    match spacing {
-        None => Ok(500),
-        Some(spacing) => {
-            let height = u64::from(height);
-            let spacing = u64::from(spacing);
-            if height > 4 * spacing || spacing > 3 * height {
-                return Err(QuestionFault::SpacingLimits);
-            }
-            Ok(500 + 500 * (height * height) / (spacing * spacing))
-        }
+    let Some(spacing) = spacing else {
+        return Ok(500);
+    };
+    let height = u64::from(height);
+    let spacing = u64::from(spacing);
+    if height > 4 * spacing || spacing > 3 * height {
+        return Err(QuestionFault::SpacingLimits);
     }
+    Ok(500 + 500 * (height * height) / (spacing * spacing))
 }
 
 fn web_resistance(web: &Plate, k: u64) -> u64

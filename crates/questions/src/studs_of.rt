@@ -20,8 +20,8 @@ pub fn studs<P: Part>(sheet: &Sheet, part: &P, stud: Stud) -> Result<StudAnswer,
     }
     let force = stud.force();
     // at the lowest level all strips are above, at level 0 all below
-    let push = part.resultants(Sense::Sagging, LOWEST).above;
-    let pull = sheet.resultants(Sense::Sagging, 0).below;
+    let push = part.forces(Sense::Sagging, LOWEST).above;
+    let pull = sheet.forces(Sense::Sagging, 0).below;
     Ok(StudAnswer {
         force,
         count: count(force, push.min(pull)),
@@ -29,7 +29,7 @@ pub fn studs<P: Part>(sheet: &Sheet, part: &P, stud: Stud) -> Result<StudAnswer,
 }
 
 impl Stud {
-    // Whether its measures are within their limits.
+    // Whether its measures are within their limits. Public, and so it stays; a type of a judged stud, made and read in `studs` alone, would be no plainer.
     pub fn is_lawful(&self) -> bool
         ensures { IsTrue result ↔ StudFits self.now }
     {
