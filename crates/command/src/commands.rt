@@ -1,6 +1,6 @@
 // A command with its operands as they stand in the record.
-// Codes stay raw numbers: the record refuses one only when the command is run, and its length must be known by then.
-// Operands stand apart, and not as a sheet's plate or a deck's slab: taking bytes apart needs neither crate.
+// Codes and a spacing's 0 for none stay numbers: an unknown code is refused only once the command's length is known, as the reader goes on behind it.
+// Operands stand apart: as a `PlateInput` and a `Slab` they would need two more crates here, to spare `record` two struct literals, and be no plainer.
 #[derive(Clone, Copy, Debug, PartialEq, Eq)]
 pub enum Command {
     Place {

@@ -6,7 +6,8 @@ use crate::commands::Command;
 use faults::ReadFault;
 
 // The command that the bytes begin with, and the bytes after it; refused with 16 where the first
-// byte is no command's, and with 17 where there are too few bytes for it.
+// byte is no command's, and with 17 where there are too few bytes for it. A pair, here and below, as std's
+// `split_first_chunk` has it: it is taken apart at once.
 pub fn read(bytes: &[u8]) -> Result<(Command, &[u8]), ReadFault>
     ensures { shown result ≡ parsed bytes.now }
 {
@@ -52,7 +53,7 @@ fn read_place(operands: &[u8]) -> Result<(Command, &[u8]), ReadFault>
     ))
 }
 
-// As `read_strike` but for the case; a function of both would be handed the case for two lines.
+// Twin of `read_strike`: two lines each; one function of both would take the case as a closure, and is no plainer.
 fn read_lift(operands: &[u8]) -> Result<(Command, &[u8]), ReadFault>
     ensures { shown result ≡ taking 1 operands.now (lift operands.now) }
 {

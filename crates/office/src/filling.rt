@@ -5,7 +5,7 @@ ghost use Rattle.office.specs.Filling.{Puts, RunsThrough};
 use record::{Reading, TOO_LONG_LINE};
 
 // Runs a record's commands on a new sheet, counts the bytes of their lines, and writes each line
-// that fits; of a record over 65,536 bytes its fault line alone.
+// that fits; of a record over 65,536 bytes its fault line alone. `record`'s `transcript` says why it stands beside this.
 pub(crate) fn fill(bytes: &[u8], out: &mut [u8]) -> usize
     ensures { RunsThrough bytes.now out.old result out.new }
 {

@@ -5,7 +5,7 @@ use std::io;
 use std::io::{Read, Write};
 
 // One byte more than a record may have, so that a longer one is seen to be too long.
-const MOST: u64 = 65_537;
+const MOST: u64 = record::LONGEST as u64 + 1;
 
 fn main(rt: HostRuntime) -> io::Result<()> {
     let mut bytes = Vec::new(rt.alloc());

@@ -1,8 +1,8 @@
 -- One text after another, and a number's last two digits after its front.
-use Rattle.std.proofs.Common.{◌≡◌, ℕ, ◌+◌, ◌/◌, ◌%◌, ◌^◌, ◌<◌, ◌≤◌, List, [], ◌∷◌, ◌++◌, length, take, drop, set, ℤ, decimal, sym, ap, ◌∙◌, subst, append_assoc, arith, length-append, take-append-drop, to_z-of_z, w64, SFits, to_z, of_z}
+use Rattle.std.proofs.Common.{◌≡◌, ℕ, ◌+◌, ◌/◌, ◌%◌, ◌^◌, ◌<◌, ◌≤◌, List, [], ◌∷◌, ◌++◌, length, take, drop, ℤ, decimal, sym, ap, ◌∙◌, subst, append_assoc, arith, length-append, take-append-drop, to_z-of_z, w64, SFits, to_z, of_z}
 use Rattle.std.specs.Fmt.{signed_decimal}
 use Rattle.std.proofs.lemmas.Fmt.{decimal_digit, decimal_step}
-use Rattle.std.proofs.lemmas.List.{length-set, take_more_set, drop-set-lt, drop-drop}
+use Rattle.std.proofs.lemmas.List.{drop-drop}
 use Rattle.record.specs.declared.line_writer.LineWriter.{LineWriter}
 use Rattle.record.specs.Writing.{Adds, written, room}
 
@@ -61,22 +61,6 @@ adds_pair n h l a = adds_is (sym (decimal_pair n h l)) a
 
 pub adds_pairs : {p q r : LineWriter} (n : ℕ) → 100 ≤ n → n < 2 ^ 64 → Adds p (decimal (n / 100)) q → Adds q (pair_of (n % 100)) r → Adds p (decimal n) r
 adds_pairs n h f a b = adds_is (sym (decimal_pairs n h f)) (then a b)
-
--- two bytes written behind the first i of a list
-pub take_two : (xs : List ℕ) (i a b : ℕ) → i + 2 ≤ length xs → take (i + 2) (set (set xs i a) (i + 1) b) ≡ take i xs ++ (a ∷ (b ∷ []))
-take_two xs i a b h =
-    let sum : i + 2 ≡ i + 1 + 1 = omega arith in
-    let long : i + 1 < length (set xs i a) = omega (arith, length-set xs i a) in
-    ap (λ (n : ℕ). take n (set (set xs i a) (i + 1) b)) sum
-    ∙ take_more_set (set xs i a) (i + 1) b long
-    ∙ ap (λ (x : List ℕ). x ++ b ∷ []) (take_more_set xs i a (omega arith))
-    ∙ append_assoc (take i xs) (a ∷ []) (b ∷ [])
-
-pub drop_two : (xs : List ℕ) (i a b : ℕ) → drop (i + 2) (set (set xs i a) (i + 1) b) ≡ drop 2 (drop i xs)
-drop_two xs i a b =
-    drop-set-lt (i + 2) (set xs i a) (i + 1) b (omega arith)
-    ∙ drop-set-lt (i + 2) xs i a (omega arith)
-    ∙ sym (drop-drop 2 i xs)
 
 -- a signed parameter of 64 bits, as a call has it
 pub adds-signed : {p q : LineWriter} {z : ℤ} → SFits w64 z → Adds p (signed_decimal (to_z w64 (of_z w64 z))) q → Adds p (signed_decimal z) q

@@ -2,7 +2,8 @@
 ghost use Rattle.std.specs.Prelude.{◌≡◌};
 ghost use Rattle.record.specs.Codes.{spacing_of};
 
-// A stiffener spacing, 0 for none. A function and no `From`: both types are std's, and an `impl` of std's trait for them may not stand here.
+// A stiffener spacing, 0 for none. A function: std alone may implement its `From` for its own types, and a type of the crate's around the answer, to
+// be taken off at its one use, would be no plainer.
 pub(crate) fn spacing_of(code: u16) -> Option<u16>
     ensures { result ≡ spacing_of code }
 {

@@ -2,6 +2,7 @@
 #![tactic(auto)]
 
 mod codes;
+mod limits;
 mod line_writer;
 mod lines;
 mod reading;
@@ -12,6 +13,7 @@ mod stepping;
 mod tests;
 mod transcripts;
 
+pub use limits::LONGEST;
 pub use reading::Reading;
 pub use stepped::Stepped;
 pub use stepping::step;

@@ -24,9 +24,10 @@ impl<'a> LineWriter<'a> {
     }
 }
 
-// By hand and not as a `fmt::Write`: its `write!` may fail at each piece, which the room here rules out, and the digits go in pairs.
-// Each write goes through a slice of the array: no proof is made of a part of an array behind a field, nor is its length known there.
-// The room that each asks for is that of its own text. The clause `same` says of memory that the line is still the one that was lent, and no fact of its bytes: it stands by itself each time.
+// By hand and not as a `fmt::Write`: `write!` gives a `Result` at each piece, which the room here rules out, so that each would be unwrapped.
+// Each write goes through a slice of the array (tried: on a range of `*self.line` itself the check proves nothing, nor does it know its length).
+// Room is asked as a number at each: the texts' longest differ, and a type for each room left would be no plainer. `same` says that the line is still
+// the one that was lent: as a field of `Adds`, which speaks of bytes and not of memory, it would be no plainer.
 impl LineWriter<'_> {
     pub(crate) fn len(&self) -> usize
         ensures { result ≡ self.now.len }
@@ -83,18 +84,14 @@ impl LineWriter<'_> {
         }
     }
 
-    // Two digits, of which the first may be 0. Written by index: with `put` here and below a transcript takes some 3 in 100 longer.
+    // Two digits, of which the first may be 0; each is below 10, so that `as` loses nothing.
     fn put_pair(&mut self, pair: u64)
         requires small { pair < 100 }
         requires within { self.old.len + 2 ≤ 64 }
         ensures same { self.new.line.ghost_name ≡ self.old.line.ghost_name }
         ensures adds { Adds self.old ((48 + pair / 10) ∷ ((48 + pair % 10) ∷ [])) self.new }
     {
-        let at = self.len;
-        let line = &mut self.line[..];
-        line[at] = b'0' + (pair / 10) as u8;
-        line[at + 1] = b'0' + (pair % 10) as u8;
-        self.len = at + 2;
+        self.put(&[b'0' + (pair / 10) as u8, b'0' + (pair % 10) as u8]);
     }
 
     fn put_digit(&mut self, digit: u64)
@@ -103,13 +100,10 @@ impl LineWriter<'_> {
         ensures same { self.new.line.ghost_name ≡ self.old.line.ghost_name }
         ensures adds { Adds self.old ((48 + digit) ∷ []) self.new }
     {
-        let at = self.len;
-        let line = &mut self.line[..];
-        line[at] = b'0' + digit as u8;
-        self.len = at + 1;
+        self.put(&[b'0' + digit as u8]);
     }
 
-    // The same of a signed number, with `-` before the digits of one below 0.
+    // The digits of a signed number, with `-` before those of one below 0.
     pub(crate) fn put_signed(&mut self, n: i64)
         requires { self.old.len + 21 ≤ 64 }
         ensures same { self.new.line.ghost_name ≡ self.old.line.ghost_name }
@@ -129,12 +123,13 @@ impl LineWriter<'_> {
         ensures adds { Adds self.old (layer_name layer) self.new }
         ensures bound { self.new.len ≤ self.old.len + 8 }
     {
-        match layer {
-            Layer::Value => self.put(b"value"),
-            Layer::Sheet => self.put(b"sheet"),
-            Layer::Part => self.put(b"part"),
-            Layer::Question => self.put(b"question"),
-            Layer::Record => self.put(b"record"),
-        }
+        let name: &[u8] = match layer {
+            Layer::Value => b"value",
+            Layer::Sheet => b"sheet",
+            Layer::Part => b"part",
+            Layer::Question => b"question",
+            Layer::Record => b"record",
+        };
+        self.put(name);
     }
 }

@@ -1,5 +1,4 @@
-// The lines of a step, each with its end; what they return is the line's length, and no part
-// of the line, which would stay lent while the step goes on.
+// The lines of a step, each with its end. What they return is the line's length, as a step tells it: a part of the line would only be measured again.
 ghost use Rattle.std.specs.Prelude.{◌^◌, ◌≤◌};
 ghost use Rattle.questions.specs.Bending.{verdict_number};
 ghost use Rattle.record.specs.Lines.{extremes_line, bending_line, shear_line, fault_line, Wrote};
@@ -59,7 +58,7 @@ pub(crate) fn write_fault(line: &mut [u8; 64], place: usize, fault: RecordFault)
 {
     let mut writer = LineWriter::new(line);
     writer.put(b"fault at ");
-    writer.put_number::<20>(place as u64);
+    writer.put_number::<20>(place as u64); // by `as`: no `From` goes from `usize`
     writer.put(b" ");
     writer.put_layer(fault.layer());
     writer.put(b" ");

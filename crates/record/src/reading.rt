@@ -1,6 +1,7 @@
 // A record that is being read, command by command.
 ghost use Rattle.std.specs.Prelude.{◌≤◌, length};
 
+use crate::limits::LONGEST;
 use crate::stepping::go_on;
 use faults::ReadFault;
 use sheet::Sheet;
@@ -22,7 +23,7 @@ impl<'a> Reading<'a> {
     pub fn new(bytes: &'a [u8]) -> Result<Reading<'a>, ReadFault>
         ensures { Opens bytes.now result }
     {
-        if bytes.len() > 65_536 {
+        if bytes.len() > LONGEST {
             return Err(ReadFault::TooLong);
         }
         Ok(Reading {
@@ -32,8 +33,8 @@ impl<'a> Reading<'a> {
         })
     }
 
-    // Runs the next command, and writes its line, or that of its fault, to the front of the buffer. The line's length, 0 for none;
-    // `None` at the record's end.
+    // Runs the next command, and writes its line, or that of its fault, to the front of the buffer. The line's length, 0 for none, as a step tells
+    // it; `None` at the record's end.
     pub fn next_line(&mut self, line: &mut [u8; 64]) -> Option<usize>
         ensures { Continues self.old line.old result self.new line.new }
     {

@@ -118,8 +118,7 @@ fn run_bending(
 ) -> Result<usize, RecordFault>
     ensures { Delivers (TellsBending (ledger sheet.now) state slab (ledger sheet.now)) line.old result line.new }
 {
-    let mut deck = Deck::empty();
-    deck.fill(slab, &[])?;
+    let deck = Deck::try_new(slab, &[])?;
     let found = questions::resistance(sheet, &deck)?;
     let state = LimitState::published(state)?;
     let verdict = found.verdict(sheet, &state);

@@ -5,6 +5,7 @@ ghost use Rattle.sheet.specs.Ledger.{ledger};
 ghost use Rattle.record.specs.Runs.{Delivers};
 ghost use Rattle.record.specs.Steps.{Advances, GoesOn, MakesStep, fault_at};
 
+use crate::limits::LONGEST;
 use crate::lines::write_fault;
 use crate::running::run;
 use crate::stepped::Stepped;
@@ -16,7 +17,7 @@ use sheet::Sheet;
 pub fn step(sheet: &mut Sheet, bytes: &[u8], place: usize, line: &mut [u8]) -> Stepped
     ensures { MakesStep (ledger sheet.old) bytes.now place line.old (ledger sheet.new) result line.new }
 {
-    if bytes.len() > 65_536 {
+    if bytes.len() > LONGEST {
         return halted(place, ReadFault::TooLong);
     }
     let Some(front) = line.first_chunk_mut::<64>() else {
@@ -40,7 +41,8 @@ fn halted(place: usize, fault: ReadFault) -> Stepped
     }
 }
 
-// A step of a record that is not too long, with room for its line: by the sheet, the bytes and the place that the caller of `step` keeps apart.
+// A step of a record that is not too long, with room for its line. Sheet, bytes and place one by one: `step` is lent a sheet and so has no `Reading`,
+// and a struct of borrows for these two calls would be no plainer.
 pub(crate) fn go_on(sheet: &mut Sheet, bytes: &[u8], place: usize, line: &mut [u8; 64]) -> Stepped
     ensures long { length line.new ≡ 64 }
     ensures goes_on { GoesOn (ledger sheet.old) bytes.now place line.old (ledger sheet.new) result line.new }
