@@ -1,6 +1,5 @@
 // Calls made directly, with their answers as text.
-use crate::calls::call;
-use crate::parts::{Question, ask};
+use crate::parts::Question;
 use crate::records::transcript;
 use crate::sort::Sort;
 use crate::stop::Stop;
@@ -8,8 +7,6 @@ use crate::texts;
 use crate::texts::numbers;
 use crate::words::Words;
 use faults::SheetFault;
-use kinds::Deck;
-use runs::Call;
 use sheet::Sheet;
 use std::alloc::Global;
 
@@ -21,31 +18,33 @@ pub(crate) fn made(
     sort: Sort,
     mut words: Words<'_>,
 ) -> Result<String, Stop> {
+    // Told apart by a `match`: each sort reads words of its own. By `runs::answer` the direct calls and the list's would be the same code, and the
+    // comparison would show nothing.
     match sort {
-        Sort::Place | Sort::Lift | Sort::Lower | Sort::Enter | Sort::Strike => {
-            change(sheet, call(heap, sort, words)?)?;
-            Ok(String::from_str(heap, "done")?)
-        }
+        Sort::Place => done(heap, sheet.place(words.value()?, words.plate()?)),
+        Sort::Lift => done(heap, sheet.lift(words.value()?)),
+        Sort::Lower => done(heap, sheet.lower(words.value()?)),
+        Sort::Enter => done(
+            heap,
+            sheet.enter(words.value()?, words.load()?, words.effect()?),
+        ),
+        Sort::Strike => done(heap, sheet.strike(words.value()?)),
         Sort::Extremes => extremes(heap, sheet, words),
+        Sort::Axis => Question::Axis(words.sense()?).ask(heap, sheet, words),
+        Sort::Bending => Question::Bending(words.state()?).ask(heap, sheet, words),
         Sort::Shear => shear(heap, sheet, words),
-        Sort::Record => transcript(heap, words),
-        Sort::Axis | Sort::Bending | Sort::Studs | Sort::Part | Sort::Resultants => {
-            let question = Question::read(sort, &mut words)?;
-            ask(heap, sheet, question, words)
+        Sort::Studs => Question::Studs(words.stud()?).ask(heap, sheet, words),
+        Sort::Part => Question::Depth.ask(heap, sheet, words),
+        Sort::Resultants => {
+            Question::Resultants(words.sense()?, words.value()?).ask(heap, sheet, words)
         }
+        Sort::Record => transcript(heap, words),
     }
 }
 
-// The arms of `runs` once more, since the direct calls are what is compared with a list's. A question changes nothing.
-fn change(sheet: &mut Sheet, call: Call<Deck>) -> Result<(), SheetFault> {
-    match call {
-        Call::Place { slot, plate } => sheet.place(slot, plate),
-        Call::Lift { slot } => sheet.lift(slot),
-        Call::Lower { levels } => sheet.lower(levels),
-        Call::Enter { slot, load, effect } => sheet.enter(slot, load, effect),
-        Call::Strike { slot } => sheet.strike(slot),
-        Call::Extremes { .. } | Call::Axis { .. } | Call::Bending { .. } => Ok(()),
-    }
+fn done(heap: Global, change: Result<(), SheetFault>) -> Result<String, Stop> {
+    change?;
+    Ok(String::from_str(heap, "done")?)
 }
 
 fn extremes(heap: Global, sheet: &Sheet, mut words: Words<'_>) -> Result<String, Stop> {

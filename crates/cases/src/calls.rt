@@ -7,63 +7,59 @@ use kinds::Deck;
 use runs::Call;
 use std::alloc::Global;
 
-pub(crate) fn call(heap: Global, sort: Sort, mut words: Words<'_>) -> Result<Call<Deck>, Stop> {
-    match sort {
-        Sort::Place => place(words),
-        Sort::Lift => Ok(Call::Lift {
+// The call that the words stand for; none where no list may have it.
+pub(crate) fn call(
+    heap: Global,
+    sort: Sort,
+    mut words: Words<'_>,
+) -> Result<Option<Call<Deck>>, Stop> {
+    // told apart by a `match`: each sort reads words of its own
+    let call = match sort {
+        Sort::Place => Call::Place {
             slot: words.value()?,
-        }),
-        Sort::Lower => Ok(Call::Lower {
+            plate: words.plate()?,
+        },
+        Sort::Lift => Call::Lift {
+            slot: words.value()?,
+        },
+        Sort::Lower => Call::Lower {
             levels: words.value()?,
-        }),
-        Sort::Enter => enter(words),
-        Sort::Strike => Ok(Call::Strike {
+        },
+        Sort::Enter => Call::Enter {
             slot: words.value()?,
-        }),
-        Sort::Extremes => extremes(words),
-        Sort::Axis => axis(heap, words),
-        Sort::Bending => bending(heap, words),
-        Sort::Shear | Sort::Studs | Sort::Part | Sort::Resultants | Sort::Record => {
-            Err(Stop::NotListed)
-        }
-    }
+            load: words.load()?,
+            effect: words.effect()?,
+        },
+        Sort::Strike => Call::Strike {
+            slot: words.value()?,
+        },
+        Sort::Extremes => Call::Extremes {
+            state: words.state()?,
+            kind: words.kind()?,
+        },
+        Sort::Axis => return axis(heap, words),
+        Sort::Bending => return bending(heap, words),
+        Sort::Shear | Sort::Studs | Sort::Part | Sort::Resultants | Sort::Record => return Ok(None),
+    };
+    Ok(Some(call))
 }
 
-fn place(mut words: Words<'_>) -> Result<Call<Deck>, Stop> {
-    let slot = words.value()?;
-    let plate = words.plate()?;
-    Ok(Call::Place { slot, plate })
-}
-
-fn enter(mut words: Words<'_>) -> Result<Call<Deck>, Stop> {
-    let slot = words.value()?;
-    let load = words.load()?;
-    let effect = words.effect()?;
-    Ok(Call::Enter { slot, load, effect })
-}
-
-fn extremes(mut words: Words<'_>) -> Result<Call<Deck>, Stop> {
-    let state = words.state()?;
-    let kind = words.kind()?;
-    Ok(Call::Extremes { state, kind })
-}
-
-fn axis(heap: Global, mut words: Words<'_>) -> Result<Call<Deck>, Stop> {
+// Twin of `bending`: two lines each; one function of both would take two closures, and is no plainer.
+fn axis(heap: Global, mut words: Words<'_>) -> Result<Option<Call<Deck>>, Stop> {
     let sense = words.sense()?;
-    let part = owned(heap, words)?;
-    Ok(Call::Axis { part, sense })
+    Ok(owned(heap, words)?.map(|part| Call::Axis { part, sense }))
 }
 
-fn bending(heap: Global, mut words: Words<'_>) -> Result<Call<Deck>, Stop> {
+fn bending(heap: Global, mut words: Words<'_>) -> Result<Option<Call<Deck>>, Stop> {
     let state = words.state()?;
-    let part = owned(heap, words)?;
-    Ok(Call::Bending { part, state })
+    Ok(owned(heap, words)?.map(|part| Call::Bending { part, state }))
 }
 
-fn owned(heap: Global, mut words: Words<'_>) -> Result<Deck, Stop> {
+// A deck that owns its strips; none where the part is another.
+fn owned(heap: Global, mut words: Words<'_>) -> Result<Option<Deck>, Stop> {
     match words.word()? {
-        "empty" => Ok(Deck::empty()),
-        "deck" => deck(heap, words),
-        _ => Err(Stop::NotListed),
+        "empty" => Ok(Some(Deck::empty())),
+        "deck" => Ok(Some(deck(heap, words)?)),
+        _ => Ok(None),
     }
 }

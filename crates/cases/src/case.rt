@@ -37,7 +37,7 @@ impl Case {
         if line == "case" {
             self.end(rt, tally)?;
         } else if !line.starts_with('#') {
-            self.compare(rt, tally, number, Line::read(line)?)?;
+            self.compare(rt, tally, Line::read(number, line)?)?;
         }
         Ok(())
     }
@@ -55,7 +55,6 @@ impl Case {
         &mut self,
         rt: &impl Print,
         tally: &mut Tally,
-        number: u64,
         line: Line<'_>,
     ) -> anyhow::Result<()> {
         let answer = made(
@@ -65,18 +64,17 @@ impl Case {
             Words::new(line.operands),
         );
         let got = reply(self.heap, answer)?;
-        let agrees = agrees(rt, number, line.expected, got.as_str())?;
+        let agrees = agrees(rt, line.number, line.expected, got.as_str())?;
         tally.add(line.sort, agrees)?;
-        self.list.add(self.heap, line, number)?;
+        self.list.add(self.heap, line)?;
         Ok(())
     }
 }
 
 // The answer's text, or that of what there is in its place.
 fn reply(heap: Global, answer: Result<String, Stop>) -> Result<String, AllocError> {
-    match answer {
-        Ok(text) => Ok(text),
-        Err(Stop::NoMemory(error)) => Err(error),
-        Err(stop) => stop.to_string(heap),
-    }
+    answer.or_else(|stop| match stop {
+        Stop::NoMemory(error) => Err(error),
+        stop => stop.to_string(heap),
+    })
 }

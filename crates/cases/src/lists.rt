@@ -16,7 +16,7 @@ struct Expected {
     reply: String,
 }
 
-// Two lists and not one of pairs, since `runs::replay` takes the calls as one slice.
+// Two lists and not one of pairs: `runs::replay` takes the calls as one slice, and a list of pairs would first have to be split into the same two.
 #[derive(Drop)]
 pub(crate) struct List {
     calls: Vec<Call<Deck>>,
@@ -46,16 +46,12 @@ impl List {
     }
 
     // Puts the call of a line behind the others, where a list may have it.
-    pub(crate) fn add(
-        &mut self,
-        heap: Global,
-        line: Line<'_>,
-        number: u64,
-    ) -> Result<(), AllocError> {
+    pub(crate) fn add(&mut self, heap: Global, line: Line<'_>) -> Result<(), AllocError> {
         match call(heap, line.sort, Words::new(line.operands)) {
-            Ok(call) => self.push(call, number, String::from_str(heap, line.expected)?),
+            Ok(Some(call)) => self.push(call, line.number, String::from_str(heap, line.expected)?),
+            // memory alone is passed on: a call that anything else stops has had that as its direct reply, and is left out
             Err(Stop::NoMemory(error)) => Err(error),
-            Err(_) => Ok(()),
+            Ok(None) | Err(_) => Ok(()),
         }
     }
 

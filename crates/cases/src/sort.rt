@@ -1,4 +1,4 @@
-// The sorts of calls. Where a call is read they are told apart by a `match`, since each reads words of its own.
+// The sorts of calls.
 use std::str::FromStr;
 use thiserror::Error;
 
@@ -25,7 +25,7 @@ pub(crate) enum Sort {
 pub(crate) struct UnknownSort;
 
 impl Sort {
-    // In the order in which they are counted and shown.
+    // In the order in which they are shown.
     pub(crate) const ALL: [Sort; 13] = [
         Sort::Place,
         Sort::Lift,
@@ -42,6 +42,7 @@ impl Sort {
         Sort::Record,
     ];
 
+    // A text and no `Display`: it is compared and padded as a text, and is no plainer otherwise.
     pub(crate) fn name(self) -> &'static str {
         match self {
             Sort::Place => "place",

@@ -15,13 +15,11 @@ pub(crate) enum Stop {
     // the line is none of a call
     #[error("unreadable")]
     Unreadable,
-    // no list of calls may have this one
-    #[error("not for a list")]
-    NotListed,
     #[error("out of memory")]
     NoMemory(#[from(alloc)] AllocError),
 }
 
+// By hand: one `From` for two cases, which a derive does not write.
 impl From<CallFault> for Stop {
     fn from(fault: CallFault) -> Stop {
         match fault {

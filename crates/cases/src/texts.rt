@@ -1,4 +1,5 @@
-// Answers as text.
+// Answers as text. Functions, since `Display` of the library's answers can stand only in the library, which spells none; a type of our own round each
+// would be no plainer.
 use crate::stop::Stop;
 use itertools::Itertools;
 use questions::{Bending, Extremes};

@@ -37,7 +37,7 @@ impl<'a> Words<'a> {
         parsed(self.word()?)
     }
 
-    // LOW-HIGH
+    // LOW-HIGH, and below four of them: pairs, as `LimitState::new` takes them
     fn range(&mut self) -> Result<(u16, u16), Stop> {
         let (low, high) = self.word()?.split_once('-').ok_or(Stop::Unreadable)?;
         Ok((parsed(low)?, parsed(high)?))
@@ -66,7 +66,8 @@ impl<'a> Words<'a> {
         })
     }
 
-    // This, `kind` and `sense` by hand and not as `FromStr`: the library fixes no spelling, each program has words of its own.
+    // This, `kind` and `sense` by hand: `FromStr` of the library's types can stand only in the library, which spells no load type, kind or sense, and a
+    // type of our own round each would be no plainer.
     pub(crate) fn load(&mut self) -> Result<LoadType, Stop> {
         match self.word()? {
             "DC" => Ok(LoadType::Dc),

@@ -20,7 +20,7 @@ pub(crate) const SLAB: Slab = Slab {
     fc: 4000,
 };
 
-// The cover plate as `CoverPlate::new` takes it, right below the bottom flange.
+// The cover plate, right below the bottom flange: `CoverPlate::new` takes four numbers, and a struct of them would be taken apart at once.
 pub(crate) const COVER_TOP: u16 = 808;
 
 pub(crate) const COVER_BREADTH: u16 = 256;
@@ -28,9 +28,7 @@ pub(crate) const COVER_BREADTH: u16 = 256;
 pub(crate) const COVER_HEIGHT: u16 = 16;
 
 pub(crate) fn deck() -> Result<Deck, PartFault> {
-    let mut deck = Deck::empty();
-    deck.fill(SLAB, &[])?;
-    Ok(deck)
+    Deck::try_new(SLAB, &[])
 }
 
 pub(crate) fn cover() -> Result<CoverPlate, PartFault> {

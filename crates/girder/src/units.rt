@@ -8,23 +8,16 @@ use std::fmt;
 #[derive(Clone, Copy)]
 pub(crate) struct Inches(pub(crate) u16);
 
-// Whole inches, and the rest as a fraction of an inch in lowest terms: three numbers that only `Display` below takes apart.
+// Whole inches, and the rest as a fraction of an inch in lowest terms: three numbers, since a struct of them would be taken apart at once and is no
+// plainer.
+#[tactic(auto, using(crate::proofs::Lowest::shifted))]
 fn mixed(sixteenths: u16) -> (u16, u16, u16)
     ensures { IsMixed sixteenths result.0 result.1 result.2 }
 {
-    let whole = sixteenths / 16;
     let rest = sixteenths % 16;
-    if rest == 0 {
-        (whole, 0, 1)
-    } else if rest % 8 == 0 {
-        (whole, rest / 8, 2)
-    } else if rest % 4 == 0 {
-        (whole, rest / 4, 4)
-    } else if rest % 2 == 0 {
-        (whole, rest / 2, 8)
-    } else {
-        (whole, rest, 16)
-    }
+    // as often as 2 divides both the rest and 16
+    let shift = rest.trailing_zeros().min(4);
+    (sixteenths / 16, rest >> shift, 16 >> shift)
 }
 
 impl fmt::Display for Inches {
@@ -40,7 +33,8 @@ impl fmt::Display for Inches {
     }
 }
 
-// A whole number and the thousandths beside it, as kips in so many pounds.
+// A whole number and the thousandths beside it, as kips in so many pounds: two numbers, since a struct of them would be taken apart at once and is no
+// plainer.
 pub(crate) fn thousandths(number: u64) -> (u64, u64)
     ensures whole { result.0 ≡ number / 1000 }
     ensures rest { result.1 ≡ number % 1000 }

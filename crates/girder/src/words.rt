@@ -132,7 +132,8 @@ fn show_bending<W: fmt::Write>(f: &mut fmt::Formatter<W>, found: Bending) -> fmt
     )
 }
 
-// The names below stand in functions and not in a `Display` of the types: the library fixes no spelling, each program has words of its own.
+// The names below stand in functions: `Display` of the library's types can stand only in the library, which spells no role, load type, sense or
+// verdict, and a type of our own round each, to be shown in a place or two, would be no plainer.
 fn role_name(role: u8) -> &'static str {
     match Role::try_from(role) {
         Ok(Role::TopFlange) => "top flange",

@@ -3,7 +3,7 @@ use loads::{Effect, EffectKind, LimitState, LoadType};
 use section::Sense;
 use sheet::PlateInput;
 
-#[derive(Drop)]
+#[derive(Clone, Debug, Drop, PartialEq)]
 pub enum Call<P> {
     Place {
         slot: u8,

@@ -12,14 +12,14 @@ use section::Part;
 use sheet::Sheet;
 use std::alloc::{AllocError, Global};
 
-// Opens a new sheet and makes every call in order: the sheet, and the reply to each call.
+// Opens a new sheet and makes every call in order: the sheet, and the reply to each call. A pair: its caller takes it apart at once.
 #[tactic(auto, using(crate::proofs::Replies::run_steps))]
 pub fn replay<P: Part>(heap: Global, calls: &[Call<P>]) -> Result<(Sheet, Vec<Reply>), AllocError>
     ensures { IfOk result (λ p. Run (map (request P.pushes P.pulls) calls.now) p.1.items (ledger p.0)) }
 {
     let mut sheet = Sheet::new();
     let mut replies = Vec::new(heap);
-    // a loop: a closure under `map` would change the sheet, and the proof would know nothing of what it returned
+    // a `for` (tried: of `calls.iter().map(..).collect(heap)` the proof knows nothing of the replies)
     for call in calls {
         replies.push(answer(&mut sheet, call))?;
     }
@@ -36,7 +36,7 @@ pub fn replay_into<P: Part>(calls: &[Call<P>], replies: &mut [Reply]) -> Option<
         return None;
     }
     let mut sheet = Sheet::new();
-    // By index: of a slice whose `iter_mut` was zipped with the calls only the length would be known.
+    // by index (tried: of a slice whose `iter_mut` was zipped with the calls only the length is known)
     for (i, call) in calls.iter().enumerate() {
         replies[i] = answer(&mut sheet, call);
     }

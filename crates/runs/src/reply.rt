@@ -19,13 +19,13 @@ pub enum Answer {
 // Why a call was refused: a change as changes are, a question as questions are.
 #[derive(Clone, Copy, Debug, PartialEq, Eq, Error)]
 pub enum CallFault {
-    #[error("{0}")]
+    #[error(transparent)]
     Sheet(SheetFault),
-    #[error("{0}")]
+    #[error(transparent)]
     Question(QuestionFault),
 }
 
-// By hand: clauses name the error that a `?` makes, and a derived `From` promises none.
+// By hand: the `From` that `#[from]` derives has no contract, and what `done` and `answer` promise of a refusal rests on what their `?` makes of it.
 impl From<SheetFault> for CallFault {
     ghost from_gives = { λ f r. r ≡ Sheet f };
 
