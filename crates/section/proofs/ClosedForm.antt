@@ -1,5 +1,5 @@
 -- The forces and moments of a block in closed form: each side of an equation adds what the other takes away.
-use Rattle.std.proofs.Common.{◌≡◌, ℕ, zero, suc, ◌+◌, ◌-◌, ◌*◌, ◌^◌, ◌<◌, ◌≤◌, ap, ◌∙◌, ⊎_elim, mul-le-mul_left, arith}
+use Rattle.std.proofs.Common.{◌≡◌, ℕ, zero, suc, ◌+◌, ◌-◌, ◌*◌, ◌^◌, ◌<◌, ◌≤◌, ◌∙◌, ⊎_elim, mul-le-mul_left, arith}
 use Rattle.std.proofs.lemmas.Nat.{mul-le}
 use Rattle.section.specs.Strips.{force_above, force_below, moment_above, moment_below}
 use Rattle.section.specs.Parts.{IsDepth}

@@ -125,5 +125,21 @@ module _ (s : Sense) (p q : ℕ → ℕ) where
       let bm = rw e' at hb.moment_is in
       omega arith
 
+  -- what is told a level up, by the forces there
+  pub one_up : (low : ℕ) (t : Resultants) (f : Forces) → 0 < low → low ≤ 4096 → IsResultants s p q (min low 4096) t → IsForces s p q (min (low - 1) 4096) f →
+      (t.above + f.above ≤ t.moment + (t.below + f.below)) ×
+      IsResultants s p q (min (low - 1) 4096) (record { above = f.above; below = f.below; moment = t.moment + (t.below + f.below) - (t.above + f.above) })
+  one_up low t f pos w ht hf =
+      let e : min low 4096 ≡ low = omega arith in
+      let e' : min (low - 1) 4096 ≡ low - 1 = omega arith in
+      let q1 : suc (low - 1) ≡ low = omega arith in
+      let tm = rw e at ht.moment_is in
+      let ta = rw e at ht.above_is in
+      let tb = rw e at ht.below_is in
+      let fa = rw e' at hf.above_is in
+      let fb = rw e' at hf.below_is in
+      let step = rw q1 at (moment_step 4096 (strength_above s p q) (strength_below s p q) (low - 1) (omega arith)) in
+      (omega arith, rw e' (record { above_is = fa; below_is = fb; moment_is = omega arith }))
+
 pub narrowed_parts : (s : Sense) (p q r t : ℕ → ℕ) (a b d : ℕ) → IsDepth p r a → IsDepth q t b → a ≤ 4096 → b ≤ 4096 → d ≡ max a b → Narrowed s (p ⊕ q) (r ⊕ t) 0 d
 narrowed_parts s p q r t a b d x y l h e = rw e (narrowed_depth s (p ⊕ q) (r ⊕ t) (max a b) (omega arith) (depth_both p q r t a b x y).past)

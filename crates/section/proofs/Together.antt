@@ -121,6 +121,13 @@ lawful_forces_both laws laws' x y s k a b r h h' is =
     let q = lawful_forces_small laws' y s k b h' in
     rw (is ∙ forces_whole a b (omega arith) (omega arith)) (forces_both s _ _ _ _ (min k 4096) a b h h')
 
+pub lawful_both_small : {S T : Type 0} {pushes pulls : S → ℕ → ℕ} {pushes' pulls' : T → ℕ → ℕ} → Lawful pushes pulls → Lawful pushes' pulls' → (x : S) (y : T) (s : Sense) (k : ℕ) (a b r : Forces) →
+    IsForces s (pushes x) (pulls x) (min k 4096) a → IsForces s (pushes' y) (pulls' y) (min k 4096) b → r ≡ forces_sum a b → (r.above ≤ 2 ^ 37) × (r.below ≤ 2 ^ 37)
+lawful_both_small laws laws' x y s k a b r h h' is =
+    let p = lawful_forces_small laws x s k a h in
+    let q = lawful_forces_small laws' y s k b h' in
+    rw (is ∙ forces_whole a b (omega arith) (omega arith)) (omega arith, omega arith)
+
 -- and so are the resultants
 pub resultants_both : (s : Sense) (p q r t : ℕ → ℕ) (k : ℕ) (a b : Resultants) → IsResultants s p r k a → IsResultants s q t k b →
     IsResultants s (p ⊕ q) (r ⊕ t) k (record { above = a.above + b.above; below = a.below + b.below; moment = a.moment + b.moment })

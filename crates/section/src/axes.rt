@@ -1,10 +1,11 @@
 // The search for the plastic neutral axis of two parts together.
-ghost use Rattle.std.specs.Prelude.{min};
+ghost use Rattle.std.specs.Prelude.{◌^◌, ◌≤◌, min};
 ghost use Rattle.section.specs.Strips.{◌⊕◌};
 ghost use Rattle.section.specs.Parts.{IsResultants};
 ghost use Rattle.section.specs.Axis.{AxisAnswer, Judged};
 
 use crate::axis::Axis;
+use crate::forces::Forces;
 use crate::part::Part;
 use crate::resultants::Resultants;
 use crate::sense::Sense;
@@ -12,7 +13,8 @@ use faults::QuestionFault;
 
 // What two parts give together at a level.
 fn together<P: Part, Q: Part>(first: &P, second: &Q, sense: Sense, level: u16) -> Resultants
-    ensures { IsResultants sense (P.Part.pushes first.now ⊕ Q.Part.pushes second.now) (P.Part.pulls first.now ⊕ Q.Part.pulls second.now) (min level 4096) result }
+    ensures is { IsResultants sense (P.Part.pushes first.now ⊕ Q.Part.pushes second.now) (P.Part.pulls first.now ⊕ Q.Part.pulls second.now) (min level 4096) result }
+    ensures small { (result.above ≤ 2 ^ 37) × (result.below ≤ 2 ^ 37) × (result.moment ≤ 2 ^ 51) }
 {
     first.resultants(sense, level) + second.resultants(sense, level)
 }
@@ -43,19 +45,27 @@ pub fn plastic_axis<P: Part, Q: Part>(
     let mut low = 0;
     // at the depth all force is above
     let mut high = first.depth().max(second.depth());
+    // the forces at the level before `low`, once there is one
+    let mut before = Forces::default();
     // a `while`: it halves a range of levels, and no list lies behind them that an iterator could go over
     while low < high {
         let middle = (low + high) / 2;
         let at = first.forces(sense, middle) + second.forces(sense, middle);
         if at.above < at.below {
             low = middle + 1;
+            before = at;
         } else {
             high = middle;
         }
     }
     let here = together(first, second, sense, low);
     if low > 0 {
-        let before = together(first, second, sense, low - 1);
+        // from one level to the next the moment changes by what the forces at both differ
+        let before = Resultants {
+            above: before.above,
+            below: before.below,
+            moment: here.moment + (here.below + before.below) - (here.above + before.above),
+        };
         if before.moment <= here.moment {
             return judge(low - 1, before);
         }
