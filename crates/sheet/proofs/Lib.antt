@@ -10,3 +10,4 @@ pub mod PlateSums
 pub mod MeasuresKept
 pub mod PlateForces
 pub mod TotalKept
+pub mod Feet

@@ -1,19 +1,23 @@
--- The force of the plates above a level, one slot after another, and what is left below it.
-use Rattle.std.proofs.Common.{◌≡◌, ℕ, ◌+◌, ◌-◌, ◌*◌, ◌<◌, ◌≤◌, zero, suc, min, true, List, [], ◌∷◌, length, map, sum, slice_index, get_or, take, Some, None, Option, sym, refl, ap, subst, ◌∙◌, mul-zero, arith, eqb-true}
+-- The force of the plates above a level and the moment about it, one slot after another, and what is left below it.
+use Rattle.std.proofs.Common.{◌≡◌, ℕ, ◌+◌, ◌-◌, ◌*◌, ◌^◌, ◌≤◌, zero, suc, min, true, List, [], ◌∷◌, length, map, sum, slice_index, get_or, take, Some, None, Option, sym, refl, ap, subst, ◌∙◌, mul-zero, arith, eqb-true}
+use mathlib.Core.Path.{fun_ext}
 use Rattle.std.specs.List.{range_with_len}
 use Rattle.std.proofs.lemmas.List.{take_all}
 use Rattle.std.proofs.lemmas.List.FromFn.{map-range_with_len_more}
 use Rattle.std.proofs.lemmas.List.Sums.{sum_by-append}
 use Rattle.section.specs.declared.sense.Sense.{Sense}
 use Rattle.section.specs.declared.sense.Sense.TheVariants.{Sagging, Hogging}
-use Rattle.section.specs.Strips.{sum_to, force_above, force_below, no_strips}
+use Rattle.section.specs.declared.forces.Forces.{Forces}
+use Rattle.section.specs.Strips.{sum_to, force_above, force_below, moment_at, no_strips, ◌⊕◌}
 use Rattle.section.specs.Sums.{sum_to_split, zeros}
-use Rattle.section.specs.Parts.{IsForces}
-use Rattle.section.proofs.Together.{force_above_both, force_above_le}
+use Rattle.section.specs.Blocks.{block_strip}
+use Rattle.section.specs.BlockLaws.{block_none}
+use Rattle.section.specs.Parts.{IsForces, IsResultants}
+use Rattle.section.proofs.Together.{force_above_both, moment_above_both, moment_below_both, force_above_le, force_below_le, moment_above_le, moment_below_le, resultants_none}
 use Rattle.section.proofs.ClosedForm.{between, is_above}
 use Rattle.sheet.specs.declared.plate.Plate.{Plate}
 use Rattle.sheet.specs.Plates.{total_force}
-use Rattle.sheet.specs.Invariants.{Within, within, within_in}
+use Rattle.sheet.specs.Invariants.{Light, Within, within, within_in}
 use Rattle.sheet.specs.PlateStrips.{slot_strips, plate_strips}
 use Rattle.sheet.specs.PlateLaws.{foot, strips-sum}
 use Rattle.sheet.specs.declared.measures.Measures.{Measures}
@@ -22,12 +26,35 @@ use Rattle.sheet.proofs.MeasuresKept.{whole, read}
 use Rattle.sheet.proofs.PlateSums.{next}
 
 -- no strips
-pub above_none : (k : ℕ) → force_above no_strips k ≡ 0
+above_none : (k : ℕ) → force_above no_strips k ≡ 0
 unfolding force_above
 above_none k = zeros no_strips k (λ _ _. refl)
 
+-- what is 0 of no strips and is added as strips are: its sum over the slots is that of the plates together
+module _ (xs : List (Option Plate)) (of : (ℕ → ℕ) → ℕ) (none : of no_strips ≡ 0) (both : (f h : ℕ → ℕ) → of (f ⊕ h) ≡ of f + of h) (at : ℕ → ℕ) (is : (i : ℕ) → at i ≡ of (slot_strips (get_or xs i None))) where
+  abbrev SumsTo : ℕ → Type 0
+  SumsTo n = sum (map at (range_with_len 0 n)) ≡ of (plate_strips (take n xs))
+
+  first_slots : (n : ℕ) → n ≤ length xs → SumsTo n
+  first_slots zero h = sym none
+  first_slots (suc n) h =
+      let r = first_slots n (omega arith) in
+      let more : n + 1 ≡ suc n = omega arith in
+      subst SumsTo more
+      (omega (
+        arith,
+        ap sum (map-range_with_len_more at 0 n n (omega arith)),
+        sum_by-append (λ x. x) (map at (range_with_len 0 n)) (at n ∷ []),
+        ap of (next xs n (omega arith)),
+        both (plate_strips (take n xs)) (slot_strips (get_or xs n None)),
+        is n,
+      ))
+
+  sum_of_slots : sum (map at (range_with_len 0 (length xs))) ≡ of (plate_strips xs)
+  sum_of_slots = first_slots (length xs) (omega arith) ∙ ap (λ ys. of (plate_strips ys)) (take_all (length xs) xs (omega arith))
+
 -- one plate: as many of its strips as lie above the level; none of them lies past 4,096
-pub plate_above : (p : Plate) (level : ℕ) → within p ≡ true → p.breadth * p.fy * min (level - p.top) p.height ≡ force_above (slot_strips (Some p)) (min level 4096)
+plate_above : (p : Plate) (level : ℕ) → within p ≡ true → p.breadth * p.fy * min (level - p.top) p.height ≡ force_above (slot_strips (Some p)) (min level 4096)
 plate_above p level w =
     let f = foot p w in
     let k = min level 4096 in
@@ -37,47 +64,41 @@ plate_above p level w =
     ap (λ m. p.breadth * p.fy * m) n
     ∙ (is_above p.top p.height (p.breadth * p.fy) k _ (between (p.breadth * p.fy) near far (omega arith))).0
 
--- one slot more
-module _ (xs : List (Option Plate)) (i k : ℕ) (h : i < length xs) where
-  above_next : force_above (plate_strips (take (i + 1) xs)) k ≡ force_above (plate_strips (take i xs)) k + force_above (slot_strips (get_or xs i None)) k
-  above_next = ap (λ f. force_above f k) (next xs i h) ∙ force_above_both (plate_strips (take i xs)) (slot_strips (get_or xs i None)) k
+-- a slot, by its measures
+slot_above : (x : Option Plate) (t a s level : ℕ) → within_in x ≡ true → fits_slot x t a s ≡ true → s * min (level - t) a ≡ force_above (slot_strips x) (min level 4096)
+slot_above None t a s level w fits =
+    let z : min (level - t) a ≡ 0 = omega (arith, eqb-true a 0 fits) in
+    ap (λ m. s * m) z ∙ mul-zero s ∙ sym (above_none (min level 4096))
+slot_above (Some p) t a s level w fits =
+    let r = read p t a s fits in
+    rw (r.top_is, r.height_is, r.strength_is, whole p w) (plate_above p level w)
 
-  -- by the slot's measures
-  pub above_measured : (level t a s : ℕ) → k ≡ min level 4096 → within_in (get_or xs i None) ≡ true → fits_slot (get_or xs i None) t a s ≡ true →
-      force_above (plate_strips (take (i + 1) xs)) k ≡ force_above (plate_strips (take i xs)) k + s * min (level - t) a
-  above_measured level t a s q w fits = above_next ∙ ap (λ z. force_above (plate_strips (take i xs)) k + z) (go (get_or xs i None) w fits)
-    where
-      go : (x : Option Plate) → within_in x ≡ true → fits_slot x t a s ≡ true → force_above (slot_strips x) k ≡ s * min (level - t) a
-      go None w fits =
-          let z : min (level - t) a ≡ 0 = omega (arith, eqb-true a 0 fits) in
-          above_none k ∙ sym (ap (λ m. s * m) z ∙ mul-zero s)
-      go (Some p) w fits =
-          let r = read p t a s fits in
-          rw (q, r.top_is, r.height_is, r.strength_is, whole p w) (sym (plate_above p level w))
+slot_moment : (x : Option Plate) (t a s k : ℕ) → k ≤ 4096 → within_in x ≡ true → fits_slot x t a s ≡ true → moment_at 4096 (block_strip t a s) (block_strip t a s) k ≡ moment_at 4096 (slot_strips x) (slot_strips x) k
+slot_moment None t a s k l w fits = ap (λ f. moment_at 4096 f f k) (fun_ext (block_none t a s (eqb-true a 0 fits)))
+slot_moment (Some p) t a s k l w fits =
+    let r = read p t a s fits in
+    rw (r.top_is, r.height_is, r.strength_is, whole p w) refl
 
--- the sum over the slots, by their measures
+-- the sums over the slots, by their measures
 abbrev pub measured_above : Measures → ℕ → ℕ → ℕ
 measured_above m level i = slice_index m.strengths i * min (level - slice_index m.tops i) (slice_index m.heights i)
 
-module _ (xs : List (Option Plate)) (m : Measures) (inside : Within xs) (measured : Measured m xs) (level : ℕ) where
-  abbrev SumsTo : ℕ → Type 0
-  SumsTo n = sum (map (measured_above m level) (range_with_len 0 n)) ≡ force_above (plate_strips (take n xs)) (min level 4096)
+abbrev pub measured_strips : Measures → ℕ → ℕ → ℕ
+measured_strips m i = block_strip (slice_index m.tops i) (slice_index m.heights i) (slice_index m.strengths i)
 
-  first_slots : (n : ℕ) → n ≤ length xs → SumsTo n
-  first_slots zero h = sym (above_none (min level 4096))
-  first_slots (suc n) h =
-      let r = first_slots n (omega arith) in
-      let next : n + 1 ≡ suc n = omega arith in
-      subst SumsTo next
-      (omega (
-        arith,
-        ap sum (map-range_with_len_more (measured_above m level) 0 n n (omega arith)),
-        sum_by-append (λ x. x) (map (measured_above m level) (range_with_len 0 n)) (measured_above m level n ∷ []),
-        above_measured xs n (min level 4096) (omega arith) level _ _ _ refl (inside n) (measured n),
-      ))
+abbrev pub measured_moment : Measures → ℕ → ℕ → ℕ
+measured_moment m k i = moment_at 4096 (measured_strips m i) (measured_strips m i) k
 
-  pub every_slot : sum (map (measured_above m level) (range_with_len 0 (length xs))) ≡ force_above (plate_strips xs) (min level 4096)
-  every_slot = first_slots (length xs) (omega arith) ∙ ap (λ ys. force_above (plate_strips ys) (min level 4096)) (take_all (length xs) xs (omega arith))
+module _ (xs : List (Option Plate)) (m : Measures) (inside : Within xs) (measured : Measured m xs) where
+  pub every_slot : (level : ℕ) → sum (map (measured_above m level) (range_with_len 0 (length xs))) ≡ force_above (plate_strips xs) (min level 4096)
+  every_slot level =
+      sum_of_slots xs (λ f. force_above f (min level 4096)) (above_none (min level 4096)) (λ f h. force_above_both f h (min level 4096)) (measured_above m level)
+      (λ i. slot_above (get_or xs i None) _ _ _ level (inside i) (measured i))
+
+  pub every_moment : (k : ℕ) → k ≤ 4096 → sum (map (measured_moment m k) (range_with_len 0 (length xs))) ≡ moment_at 4096 (plate_strips xs) (plate_strips xs) k
+  every_moment k l =
+      sum_of_slots xs (λ f. moment_at 4096 f f k) (sym (resultants_none Sagging k l).moment_is) (λ f h. omega (arith, moment_above_both f h k, moment_below_both 4096 f h k)) (measured_moment m k)
+      (λ i. slot_moment (get_or xs i None) _ _ _ k l (inside i) (measured i))
 
 -- the plates have no more above a level than in all
 pub above_within : (xs : List (Option Plate)) → Within xs → (level : ℕ) → force_above (plate_strips xs) (min level 4096) ≤ total_force xs
@@ -101,3 +122,14 @@ forces_alike xs inside level above total a t s = go s
     go : (s : Sense) → IsForces s (plate_strips xs) (plate_strips xs) (min level 4096) (record { above = above; below = total - above })
     go Sagging = record { above_is = a; below_is = below }
     go Hogging = record { above_is = a; below_is = below }
+
+-- and the moment is the same in either sense
+pub moment_alike : (f : ℕ → ℕ) (k : ℕ) (r : Forces) (m : ℕ) (s : Sense) → IsForces s f f k r → m ≡ moment_at 4096 f f k → IsResultants s f f k (record { above = r.above; below = r.below; moment = m })
+moment_alike f k r m Sagging is e = record { above_is = is.above_is; below_is = is.below_is; moment_is = e }
+moment_alike f k r m Hogging is e = record { above_is = is.above_is; below_is = is.below_is; moment_is = e }
+
+-- nor does it pass 2 ^ 50
+pub moment_small : (xs : List (Option Plate)) → Light xs → Within xs → (k : ℕ) → k ≤ 4096 → moment_at 4096 (plate_strips xs) (plate_strips xs) k ≤ 2 ^ 50
+moment_small xs light inside k l =
+    let f = plate_strips xs in
+    omega (arith, strips-sum xs inside, force_above_le 4096 f k l, force_below_le 4096 f k l, moment_above_le 4096 f k l, moment_below_le 4096 f k l)

@@ -1,12 +1,12 @@
--- What is asked of the standing plates: the first of a role, and whether one passes when lowered.
-use Rattle.std.proofs.Common.{◌≡◌, ℕ, ◌||◌, cond, List, [], ◌∷◌, Some, None, Option, refl, ap}
-use Rattle.std.specs.List.{find, list_any}
+-- What is asked of the standing plates: the first of a role.
+use Rattle.std.proofs.Common.{◌≡◌, cond, List, [], ◌∷◌, Some, None, Option, refl, ap}
+use Rattle.std.specs.List.{find}
 use denote.Enum.Bare.{sameb}
 use Rattle.sheet.specs.contracts.plate.Role.{the_type}
 use Rattle.sheet.specs.declared.plate.Role.{Role}
 use Rattle.sheet.specs.declared.plate.Role.TheVariants.{TopFlange, Web, BottomFlange, Other}
 use Rattle.sheet.specs.declared.plate.Plate.{Plate}
-use Rattle.sheet.specs.Plates.{same_role, standing, passes_in, passes}
+use Rattle.sheet.specs.Plates.{same_role, standing}
 use Rattle.sheet.proofs.Standing.{plates_in}
 
 -- roles are equal where their numbers are
@@ -33,9 +33,3 @@ pub standing_found : (r : Role) (xs : List (Option Plate)) → find (λ p. same_
 standing_found r [] = refl
 standing_found r (None ∷ xs) = standing_found r xs
 standing_found r (Some p ∷ xs) = ap (cond (same_role p.role r) (Some p)) (standing_found r xs)
-
--- whether one of the plates in the slots passes, lowered by n
-pub passes_found : (n : ℕ) (xs : List (Option Plate)) → list_any (λ p. passes_in n (Some p)) (plates_in xs) ≡ passes n xs
-passes_found n [] = refl
-passes_found n (None ∷ xs) = passes_found n xs
-passes_found n (Some p ∷ xs) = ap (λ b. passes_in n (Some p) || b) (passes_found n xs)

@@ -1,5 +1,5 @@
 -- Plates: their limits, and what the standing ones come to together. Lengths in sixteenths of an inch, yield strength fy in psi.
-use Rattle.std.specs.Prelude.{◌≡◌, ℕ, ◌+◌, ◌*◌, Bool, true, false, cond, not, ◌&&◌, ◌||◌, List, [], ◌∷◌, map, Some, None, Ok, Err, sum_by, Option, Result, ◌==◌, nat_le, nat_lt}
+use Rattle.std.specs.Prelude.{◌≡◌, ℕ, ◌+◌, ◌*◌, max, Bool, true, false, cond, not, ◌&&◌, ◌||◌, List, [], ◌∷◌, map, Some, None, Ok, Err, sum_by, Option, Result, ◌==◌, nat_le, nat_lt}
 use Rattle.std.specs.List.{list_any}
 use Rattle.faults.specs.declared.sheet.SheetFault.{SheetFault}
 use Rattle.faults.specs.declared.sheet.SheetReason.TheVariants.{PlateLimits}
@@ -75,6 +75,17 @@ abbrev pub standing : Role → List (Option Plate) → Option Plate
 standing r [] = None
 standing r (None ∷ xs) = standing r xs
 standing r (Some p ∷ xs) = cond (same_role p.role r) (Some p) (standing r xs)
+
+-- the greater of a foot and one that may be none
+abbrev pub lower_foot : ℕ → Option ℕ → ℕ
+lower_foot f None = f
+lower_foot f (Some g) = max f g
+
+-- the foot of the lowest standing plate, top + height; none where none stands
+abbrev pub lowest_foot : List (Option Plate) → Option ℕ
+lowest_foot [] = None
+lowest_foot (None ∷ xs) = lowest_foot xs
+lowest_foot (Some p ∷ xs) = Some (lower_foot (p.top + p.height) (lowest_foot xs))
 
 -- whether a plate's foot would pass 4,096, lowered by n
 abbrev pub passes_in : ℕ → Option Plate → Bool

@@ -1,6 +1,6 @@
 // A steel plate. Lengths are in sixteenths of an inch, levels count down from the top face, and
 // the yield strength `fy` is in psi.
-ghost use Rattle.std.specs.Prelude.{◌≡◌, Some};
+ghost use Rattle.std.specs.Prelude.{◌≡◌, ◌+◌};
 ghost use Rattle.sheet.specs.Plates as plates;
 ghost use Rattle.sheet.specs.Invariants.{within};
 
@@ -116,7 +116,7 @@ impl Plate {
             && self.height <= LOWEST;
         let yields = LEAST_YIELD <= self.fy && self.fy <= GREATEST_YIELD;
         let slender = self.role != Role::Web || self.breadth <= BROADEST_WEB;
-        let above_end = u32::from(self.top) + u32::from(self.height) <= u32::from(LOWEST);
+        let above_end = self.foot() <= u32::from(LOWEST);
         sized & yields & slender & above_end
     }
 
@@ -127,10 +127,10 @@ impl Plate {
         u64::from(self.breadth) * u64::from(self.height) * u64::from(self.fy)
     }
 
-    // Whether its foot would pass level 4,096, lowered by n.
-    pub(crate) fn would_pass(&self, n: u16) -> bool
-        ensures { result ≡ plates.passes_in n (Some self.now) }
+    // The level at which it ends.
+    pub(crate) fn foot(&self) -> u32
+        ensures { result ≡ self.now.top + self.now.height }
     {
-        u32::from(self.top) + u32::from(n) + u32::from(self.height) > u32::from(LOWEST)
+        u32::from(self.top) + u32::from(self.height)
     }
 }

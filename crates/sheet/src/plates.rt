@@ -3,22 +3,26 @@ ghost use Rattle.std.specs.Prelude.{◌≡◌, ◌%◌, ◌^◌, ◌<◌, ◌≤
 ghost use Rattle.sheet.specs.Slots.{empties};
 ghost use Rattle.sheet.specs.RoleSlots.{Noted};
 ghost use Rattle.sheet.specs.Measures.{Measured};
-ghost use Rattle.sheet.specs.Plates.{clash_in, total_force, stands, standing, passes, lowered};
+ghost use Rattle.sheet.specs.Plates.{clash_in, total_force, stands, standing, lowest_foot, passes, lowered};
 
 use crate::measures::Measures;
 use crate::plate::{Plate, Role};
 use crate::role_slots::RoleSlots;
 use crate::slot::Slot;
 use crate::slots::Slots;
+use section::LOWEST;
 
 #[derive(Drop)]
 pub struct Plates {
     pub(crate) slots: Slots<Plate, 24>,
     // the sum of breadth × height × yield over the standing plates, kept so that placing has no loop; modulo 2^64: no bound is asked of them here
     total: u64,
+    // the greatest top + height of the standing plates, kept so that neither a question nor lowering has to look for it
+    pub(crate) foot: Option<u32>,
     roles: RoleSlots,
     pub(crate) measures: Measures,
     ghost totalled: { total ≡ total_force slots.items % 2 ^ 64 },
+    ghost footed: { foot ≡ lowest_foot slots.items },
     ghost placed: { Noted roles slots.items },
     ghost measured: { Measured measures slots.items },
 }
@@ -32,6 +36,13 @@ fn first_slot(slots: &[Option<Plate>], role: Role) -> Option<usize>
         .position(|slot| slot.is_some_and(|plate| role.clashes(plate.role)))
 }
 
+// The foot of the lowest standing plate.
+fn lowest_foot(slots: &[Option<Plate>]) -> Option<u32>
+    ensures { result ≡ lowest_foot slots.now }
+{
+    slots.iter().flatten().map(|plate| plate.foot()).max()
+}
+
 impl Plates {
     pub(crate) fn new() -> Plates
         ensures { result.slots.items ≡ empties 24 }
@@ -39,6 +50,7 @@ impl Plates {
         Plates {
             slots: Slots::empty(),
             total: 0,
+            foot: None,
             roles: RoleSlots::default(),
             measures: Measures::new(),
         }
@@ -49,6 +61,7 @@ impl Plates {
     {
         self.take_out(slot);
         self.total = self.total.wrapping_add(plate.force());
+        self.foot = self.foot.max(Some(plate.foot()));
         let first = self.roles.first(plate.role, slot.index);
         self.roles.note(plate.role, Some(first));
         self.measures.note(slot, &plate);
@@ -64,6 +77,11 @@ impl Plates {
             self.slots.set(slot, None);
             let next = first_slot(&self.slots.items, plate.role);
             self.roles.note(plate.role, next);
+            // found anew only where that plate stood lowest
+            self.foot = self
+                .foot
+                .filter(|&foot| foot != plate.foot())
+                .or_else(|| lowest_foot(&self.slots.items));
         }
     }
 
@@ -109,11 +127,7 @@ impl Plates {
     pub(crate) fn would_pass(&self, n: u16) -> bool
         ensures { result ≡ passes n self.now.slots.items }
     {
-        self.slots
-            .items
-            .iter()
-            .flatten()
-            .any(|plate| plate.would_pass(n))
+        self.foot.is_some_and(|foot| foot.saturating_add(u32::from(n)) > u32::from(LOWEST))
     }
 
     // Adds n to the top of every standing plate.
@@ -122,6 +136,7 @@ impl Plates {
         ensures { self.new.slots.items ≡ lowered n self.old.slots.items }
     {
         self.measures.lower(n);
+        self.foot = self.foot.map(|foot| foot + u32::from(n));
         // slot by slot (tried: after `iter_mut().flatten()` the check knows nothing of what was written)
         for slot in self.slots.items.iter_mut() {
             if let Some(plate) = slot {

@@ -1,26 +1,8 @@
 // The plates of a sheet as a part: they push and pull alike, in either sense.
-ghost use Rattle.std.specs.Prelude.{◌≡◌, ◌*◌, ◌^◌, ◌≤◌, true};
-ghost use Rattle.sheet.specs.Plates.{force};
-ghost use Rattle.sheet.specs.Invariants.{within};
 ghost use Rattle.sheet.specs.PlateLaws.{sheet_strips, plates_laws};
 
 use crate::held::Sheet;
-use crate::plate::Plate;
-use section::{Block, Forces, Part, Resultants, Sense};
-
-impl Plate {
-    // The plate as a block of strips, each with the force breadth × yield.
-    fn block(&self) -> Block
-        requires inside { within self.now ≡ true }
-        requires light { force self.now ≤ 2 ^ 36 }
-        ensures top { result.top ≡ self.now.top }
-        ensures height { result.height ≡ self.now.height }
-        ensures strength { result.strength ≡ self.now.breadth * self.now.fy }
-    {
-        let strength = u64::from(self.breadth) * u64::from(self.fy);
-        Block::new(self.top, self.height, strength).unwrap()
-    }
-}
+use section::{Forces, LOWEST, Part, Resultants, Sense};
 
 impl Part for Sheet {
     ghost pushes = { sheet_strips };
@@ -30,19 +12,22 @@ impl Part for Sheet {
     ghost laws = { plates_laws };
 
     fn depth(&self) -> u16 {
-        let mut deepest = 0;
-        for plate in self.plates.slots.items.iter().flatten() {
-            deepest = plate.block().depth().max(deepest);
-        }
-        deepest
+        // every plate has a strip with strength, and ends by level 4,096
+        self.plates.foot.unwrap_or(0) as u16
     }
 
-    fn resultants(&self, _sense: Sense, level: u16) -> Resultants {
-        let mut sum = Resultants::default();
-        for plate in self.plates.slots.items.iter().flatten() {
-            sum += plate.block().resultants(level);
+    // The moment too over the measures: with a block made of each standing plate a bending question takes 1.3 times as many instructions.
+    fn resultants(&self, sense: Sense, level: u16) -> Resultants {
+        let forces = self.forces(sense, level);
+        let level = level.min(LOWEST);
+        let moment = (0..24)
+            .map(|slot| self.plates.measures.moment(slot, level))
+            .sum();
+        Resultants {
+            above: forces.above,
+            below: forces.below,
+            moment,
         }
-        sum
     }
 
     // What is not above the level is below it.

@@ -1,8 +1,11 @@
-use Rattle.std.proofs.Common.{ℕ, ◌%◌, ◌^◌, ◌<◌, length, Some, None, sym, ap, ◌∙◌, arith}
+use Rattle.std.proofs.Common.{rules, tests, ◌≡◌, ℕ, ◌+◌, ◌%◌, ◌^◌, ◌<◌, length, Some, None, sym, ap, ◌∙◌, arith}
 use lib.ListN.{length-map}
+use Rattle.std.specs.Option.{option_map}
+use Rattle.std.proofs.iter.Serving.{serving}
 use Rattle.std.proofs.lemmas.Bool.{ltb-false}
-use Rattle.sheet.specs.Plates.{total_force, lowered_in, passes_in}
+use Rattle.sheet.specs.Plates.{total_force, lowest_foot, lowered_in, passes_in}
 use Rattle.sheet.proofs.Lowering.{some_none, total_force_kept, over_here, over_step, over_all}
+use Rattle.sheet.proofs.Feet.{foot-lowered, foot_stays}
 use Rattle.sheet.specs.RoleSlots.{slot_with}
 use Rattle.sheet.proofs.MeasuresKept.{fits_same, fits_lower}
 use Rattle.sheet.proofs.RolePlaces.{read_note, make_note, slot-lowered}
@@ -19,7 +22,12 @@ invariant_of-self c =
     let totalled = c.args.self.now.totalled ∙ sym (ap (λ (n : ℕ). n % 2 ^ 64) (ap total_force all ∙ total_force_kept c.args.n slots)) in
     let placed = make_note c.args.self.now.roles c.loop-slot.slot-items (λ r. read_note c.args.self.now.roles slots c.args.self.now.placed r ∙ sym (ap (slot_with r) all ∙ slot-lowered c.args.n r slots)) in
     let measured = fits_same _ _ _ _ _ _ _ _ all c.lower.ensures.tops c.lower.ensures.heights c.lower.ensures.strengths (fits_lower c.args.n slots m.tops m.heights m.strengths (omega (arith, long, m.topped)) c.requires c.args.self.now.measured) in
-    ((ap length all ∙ length-map slots f ∙ long, tt), (totalled, (placed, (measured, tt))))
+    let moved : c.map-self.result ≡ option_map (λ f. f + c.args.n) c.args.self.now.foot = search (rules, tests) in
+    let footed = moved ∙ ap (option_map (λ f. f + c.args.n)) c.args.self.now.footed ∙ sym (ap lowest_foot all ∙ foot-lowered c.args.n slots) in
+    ((ap length all ∙ length-map slots f ∙ long, tt), (totalled, (footed, (placed, (measured, tt)))))
+
+pub map-self-requires : goal.map-self-requires
+map-self-requires c = λ x e. let b = foot_stays c.args.n c.args.self.now.slots.items c.requires x (sym c.args.self.now.footed ∙ e) in grind (serving, arith)
 
 pub overflow_add-plate : goal.overflow_add-plate
 overflow_add-plate c =

@@ -4,8 +4,9 @@ use Rattle.std.proofs.lemmas.List.{get_or-set_same, set-set}
 use Rattle.std.proofs.lemmas.List.Sums.{sum_by-set}
 use Rattle.sheet.specs.Slots.{content}
 use Rattle.sheet.specs.RoleSlots.{noted, earlier, slot_with, Noted}
-use Rattle.sheet.specs.Plates.{force_in, total_force, clash}
+use Rattle.sheet.specs.Plates.{force_in, total_force, lower_foot, lowest_foot, clash}
 use Rattle.sheet.proofs.TotalKept.{total_more}
+use Rattle.sheet.proofs.Feet.{lower_of, foot_put}
 use Rattle.sheet.proofs.MeasuresKept.{fits_same, fits_put}
 use Rattle.sheet.proofs.RolePlaces.{read_note, make_note, slot_put}
 use Rattle.sheet.proofs.plates.Plates.put.Goals as goal
@@ -22,6 +23,9 @@ invariant_of-self c =
     let m = s.measures in
     record {
       totalled = total_more s.total _ _ c.force.result s.totalled (omega (arith, c.force.ensures, sum_by-set force_in xs slot (Some p) None h, ap force_in empty, ap total_force c.set.ensures));
+      footed =
+          c.max-self.ensures ∙ lower_of c.foot.result s.foot ∙ (λ i. Some (lower_foot (c.foot.ensures i) (s.footed i)))
+          ∙ foot_put xs slot p h empty ∙ ap lowest_foot (sym c.set.ensures);
       placed =
           subst (Noted c.note.new.self) (sym c.set.ensures)
           (make_note _ (set xs slot (Some p))

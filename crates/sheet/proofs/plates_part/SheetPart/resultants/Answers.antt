@@ -1,53 +1,27 @@
 -- `sheet::plates_part::SheetPart::resultants` meets its contract.
-use Rattle.std.proofs.Common.{min, length, ◌∙◌, ap, subst, arith}
-use Rattle.std.proofs.lemmas.Iterator.Consumers.{YieldsList-turn, YieldsList-end}
-use Rattle.std.proofs.lemmas.List.{length_push, take_all}
-use Rattle.section.specs.declared.sense.Sense.{Sense}
-use Rattle.section.specs.Parts.{IsResultants}
-use Rattle.section.proofs.Adding.{resultants_whole}
-use Rattle.section.proofs.Together.{resultants_none}
+use Rattle.std.proofs.Common.{rules, tests, min, length, sym, ◌∙◌, arith}
+use Rattle.std.proofs.lemmas.Iterator.{YieldsList-from_range, YieldsList-from_map}
+use Rattle.std.proofs.lemmas.Iterator.Consumers.{fits_from_yields_list, sum_from_yields_List}
 use Rattle.sheet.specs.PlateStrips.{plate_strips}
-use Rattle.sheet.proofs.Standing.{YieldsList-from_options, full_slots, plate_strips-full_slots, Light-full_slots, Within-full_slots, length-full_slots, full_slot}
-use Rattle.sheet.proofs.PlateSums.{plate_kept, block_level, resultants_next, added_small}
+use Rattle.sheet.proofs.PlateForces.{measured_moment, every_moment, moment_small, moment_alike}
 use Rattle.sheet.proofs.plates_part.SheetPart.resultants.Goals as goal
 
-pub loop-plate-init : goal.loop-plate-init
-loop-plate-init c =
-    let e = c.flatten-plate-items.ensures in
-    let z = c.default-sum.ensures in
-    record {
-      road = rw c.into_iter-plate-iterator.ensures.into_iter_gives (YieldsList-from_options _ c.args.self.now.plates.slots.items (λ x j b. (b.0, b.1)) (ap (λ s. s.rest.now) e.source ∙ c.iter.ensures.rest) e.front e.back e.done);
-      so_far = λ (s : Sense). rw (z.0, z.1.0, z.1.1) (resultants_none s (min c.args.level 4096) (omega arith));
-    }
-
-pub block-requires : goal.block-requires
-block-requires c =
-    let xs = c.args.self.now.plates.slots.items in
-    let n = length c.loop-plate.yielded in
-    let at = full_slot xs n c.in-Some.plate.now (YieldsList-turn c.loop-plate.invariant.road c.loop-plate.yielded c.loop-plate.plate-iterator c.loop-plate.yielded_by c.next.result c.next.new.self c.in-Some.plate c.in-Some.is c.next.ensures.steps) in
-    let k = plate_kept (full_slots xs) (Light-full_slots xs c.args.self.now.light) (Within-full_slots xs c.args.self.now.within) n c.in-Some.plate.now at.0 at.1 in
-    record { inside = k.0; light = k.1 }
-
-pub loop-plate-preserved : goal.loop-plate-preserved
-loop-plate-preserved c =
-    let xs = c.args.self.now.plates.slots.items in
-    let n = length c.loop-plate.yielded in
-    let p = c.in-Some.plate.now in
-    let now = c.loop-plate.invariant.so_far in
-    let at = full_slot xs n p (YieldsList-turn c.loop-plate.invariant.road c.loop-plate.yielded c.loop-plate.plate-iterator c.loop-plate.yielded_by c.next.result c.next.new.self c.in-Some.plate c.in-Some.is c.next.ensures.steps) in
-    let one = block_level p c.block.result (record { top = c.block.ensures.top; height = c.block.ensures.height; strength = c.block.ensures.strength }) _ _ c.resultants.ensures in
-    let small = added_small (full_slots xs) (Light-full_slots xs c.args.self.now.light) (Within-full_slots xs c.args.self.now.within) n at.0 p at.1 c.args.level _ c.resultants.result now one in
-    rw (length_push c.loop-plate.yielded c.in-Some.plate) (record {
-      road = c.loop-plate.invariant.road;
-      so_far = λ (s : Sense).
-          rw (c.add_assign.ensures.after ∙ resultants_whole c.loop-plate.sum c.resultants.result (omega (arith, small.0)) (omega (arith, small.1)) (omega (arith, small.2)))
-          (resultants_next (full_slots xs) n at.0 p at.1 s (min c.args.level 4096) _ c.resultants.result (now s) (one s));
-    })
+pub sum-moment-requires-clause-fits : goal.sum-moment-requires-clause-fits
+sum-moment-requires-clause-fits c =
+    let p = c.args.self.now.plates in
+    let xs = p.slots.items in
+    let within = c.args.self.now.within in
+    fits_from_yields_list c.map.result _
+    (YieldsList-from_map _ (measured_moment p.measures c.min-level.result) (YieldsList-from_range 0 24 (length xs) c.map.ensures.source (sym p.slots.long)) c.map.ensures.closure (λ x r q k. search (rules, tests)))
+    (omega (arith, every_moment xs p.measures within p.measured c.min-level.result (omega (arith, c.min-level.ensures)), moment_small xs c.args.self.now.light within c.min-level.result (omega (arith, c.min-level.ensures))))
 
 pub returns : goal.returns
 returns c =
-    let xs = c.args.self.now.plates.slots.items in
-    let n = length c.loop-plate.yielded in
-    let end = YieldsList-end c.loop-plate.invariant.road c.loop-plate.yielded c.loop-plate.plate-iterator c.loop-plate.yielded_by c.next.result c.next.new.self c.in-None.is c.next.ensures.steps in
-    let s = c.args._sense in
-    subst (λ f. IsResultants s f f (min c.args.level 4096) c.loop-plate.sum) (ap plate_strips (take_all n (full_slots xs) (omega (arith, end.1, length-full_slots xs))) ∙ plate_strips-full_slots xs) (c.loop-plate.invariant.so_far s)
+    let p = c.args.self.now.plates in
+    let xs = p.slots.items in
+    let within = c.args.self.now.within in
+    let k = c.min-level.result in
+    let m = sum_from_yields_List c.map.result c.sum-moment.result c.sum-moment.ensures.ran
+    (YieldsList-from_map _ (measured_moment p.measures k) (YieldsList-from_range 0 24 (length xs) c.map.ensures.source (sym p.slots.long)) c.map.ensures.closure (λ x r q k. search (rules, tests)))
+    ∙ every_moment xs p.measures within p.measured k (omega (arith, c.min-level.ensures)) in
+    moment_alike (plate_strips xs) (min c.args.level 4096) c.forces-forces.result c.sum-moment.result c.args.sense c.forces-forces.ensures (rw c.min-level.ensures at m)
