@@ -28,6 +28,10 @@ fn put(out: &mut [u8], at: usize, line: &[u8])
     requires { at + length line.now < 2 ^ 64 }
     ensures { Puts out.old at line.now out.new }
 {
+    // a change has no line
+    if line.is_empty() {
+        return;
+    }
     let end = at + line.len();
     if end <= out.len() {
         out[at..end].copy_from_slice(line);
