@@ -1,5 +1,5 @@
 -- The search for the axis by halves: what each turn knows, and what the end shows.
-use Rattle.std.proofs.Common.{◌≡◌, ℕ, suc, ◌+◌, ◌-◌, ◌<◌, ◌≤◌, min, max, Ok, Err, Result, refl, arith}
+use Rattle.std.proofs.Common.{◌≡◌, ℕ, suc, ◌+◌, ◌-◌, ◌<◌, ◌≤◌, ◌^◌, min, max, Some, None, Ok, Err, Option, Result, refl, arith}
 use Rattle.faults.specs.declared.question.QuestionFault.{QuestionFault}
 use Rattle.section.specs.declared.sense.Sense.{Sense}
 use Rattle.section.specs.declared.sense.Sense.TheVariants.{Sagging, Hogging}
@@ -13,6 +13,11 @@ use Rattle.section.specs.Sums.{zeros}
 use Rattle.section.proofs.Levels.{moment_step, above_le, below_ge}
 use Rattle.section.proofs.Together.{depth_both}
 use Rattle.section.proofs.Turning.{least, before, even}
+
+-- the forces at the level before one, where there is one
+abbrev pub ToldBefore : Sense → (ℕ → ℕ) → (ℕ → ℕ) → ℕ → Option Forces → Type 0
+ToldBefore s p q low None = low ≡ 0
+ToldBefore s p q low (Some f) = (0 < low) × (IsForces s p q (min (low - 1) 4096) f × ((f.above ≤ 2 ^ 37) × (f.below ≤ 2 ^ 37)))
 
 -- the first level at which the force above is no smaller than that below lies from low to high, or there is none up to 4,095
 pub record Narrowed (sense : Sense) (pushes pulls : ℕ → ℕ) (low high : ℕ) : Type 0 where

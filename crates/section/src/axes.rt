@@ -5,7 +5,6 @@ ghost use Rattle.section.specs.Parts.{IsResultants};
 ghost use Rattle.section.specs.Axis.{AxisAnswer, Judged};
 
 use crate::axis::Axis;
-use crate::forces::Forces;
 use crate::part::Part;
 use crate::resultants::Resultants;
 use crate::sense::Sense;
@@ -46,25 +45,25 @@ pub fn plastic_axis<P: Part, Q: Part>(
     // at the depth all force is above
     let mut high = first.depth().max(second.depth());
     // the forces at the level before `low`, once there is one
-    let mut before = Forces::default();
+    let mut before = None;
     // a `while`: it halves a range of levels, and no list lies behind them that an iterator could go over
     while low < high {
         let middle = (low + high) / 2;
         let at = first.forces(sense, middle) + second.forces(sense, middle);
         if at.above < at.below {
             low = middle + 1;
-            before = at;
+            before = Some(at);
         } else {
             high = middle;
         }
     }
     let here = together(first, second, sense, low);
-    if low > 0 {
-        // from one level to the next the moment changes by what the forces at both differ
+    if let Some(at) = before {
+        // from one level to the next the moment changes by the force above less the force below, at both together
         let before = Resultants {
-            above: before.above,
-            below: before.below,
-            moment: here.moment + (here.below + before.below) - (here.above + before.above),
+            above: at.above,
+            below: at.below,
+            moment: here.moment + (here.below + at.below) - (here.above + at.above),
         };
         if before.moment <= here.moment {
             return judge(low - 1, before);

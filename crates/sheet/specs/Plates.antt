@@ -81,7 +81,7 @@ abbrev pub lower_foot : ℕ → Option ℕ → ℕ
 lower_foot f None = f
 lower_foot f (Some g) = max f g
 
--- the foot of the lowest standing plate, top + height; none where none stands
+-- the lowest foot of the standing plates, the greatest top + height; none where none stands
 abbrev pub lowest_foot : List (Option Plate) → Option ℕ
 lowest_foot [] = None
 lowest_foot (None ∷ xs) = lowest_foot xs

@@ -71,7 +71,7 @@ impl Measures {
         u64::from(self.strengths[slot]) * u64::from(strips)
     }
 
-    // The moment of a slot's strips about a level, in half strips: their strength by the squares of the ways to them, on either side of it.
+    // The moment of a slot's strips about a level: on each side their strength × (far² − near²), by the ways to the strips' farther and nearer end.
     pub(crate) fn moment(&self, slot: usize, level: u16) -> u64
         requires slot { slot < 24 }
         requires inside { 0 < slice_index self.now.heights slot → slice_index self.now.tops slot + slice_index self.now.heights slot ≤ 4096 }
@@ -86,6 +86,7 @@ impl Measures {
     }
 }
 
+// By squares, where a block has a force to multiply: it fits 32 bits, so that the sum over the slots takes one multiplication of 32 bits by 32 for each.
 fn squares_between(near: u16, far: u16) -> u32
     requires { near ≤ far }
     ensures { result ≡ far * far - near * near }

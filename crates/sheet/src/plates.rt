@@ -36,11 +36,11 @@ fn first_slot(slots: &[Option<Plate>], role: Role) -> Option<usize>
         .position(|slot| slot.is_some_and(|plate| role.clashes(plate.role)))
 }
 
-// The foot of the lowest standing plate.
+// The lowest foot of the standing plates, the greatest top + height; none where none stands.
 fn lowest_foot(slots: &[Option<Plate>]) -> Option<u32>
     ensures { result ≡ lowest_foot slots.now }
 {
-    slots.iter().flatten().map(|plate| plate.foot()).max()
+    slots.iter().flatten().map(Plate::foot).max()
 }
 
 impl Plates {
@@ -77,7 +77,7 @@ impl Plates {
             self.slots.set(slot, None);
             let next = first_slot(&self.slots.items, plate.role);
             self.roles.note(plate.role, next);
-            // found anew only where that plate stood lowest
+            // looked for anew only where that plate's foot was the lowest
             self.foot = self
                 .foot
                 .filter(|&foot| foot != plate.foot())
@@ -127,6 +127,7 @@ impl Plates {
     pub(crate) fn would_pass(&self, n: u16) -> bool
         ensures { result ≡ passes n self.now.slots.items }
     {
+        // saturating: the sum is not known to fit here, where no bound is kept of a foot
         self.foot.is_some_and(|foot| foot.saturating_add(u32::from(n)) > u32::from(LOWEST))
     }
 

@@ -16,7 +16,7 @@ impl Part for Sheet {
         self.plates.foot.unwrap_or(0) as u16
     }
 
-    // The moment too over the measures: with a block made of each standing plate a bending question takes 1.3 times as many instructions.
+    // Over the measures, as the forces are: with a block made of each standing plate a bending question takes half as long again.
     fn resultants(&self, sense: Sense, level: u16) -> Resultants {
         let forces = self.forces(sense, level);
         let level = level.min(LOWEST);

@@ -1,7 +1,6 @@
-use Rattle.std.proofs.Common.{◌-◌, ◌^◌, ◌<◌, ◌≤◌, min}
+use Rattle.std.proofs.Common.{◌-◌}
 use Rattle.section.specs.Strips.{◌⊕◌}
-use Rattle.section.specs.Parts.{IsForces}
-use Rattle.section.proofs.Search.{Narrowed}
+use Rattle.section.proofs.Search.{Narrowed, ToldBefore}
 use Rattle.section.proofs.axes.plastic_axis.Given as goal
 
 abbrev pub invariant-loop-low : goal.invariant-loop-low
@@ -10,8 +9,7 @@ invariant-loop-low g l =
     let pulls = g.P.Part.pulls l.first ⊕ g.Q.Part.pulls l.second in
     record {
       narrowed : Narrowed l.sense pushes pulls l.low l.high;
-      told : 0 < l.low → IsForces l.sense pushes pulls (min (l.low - 1) 4096) l.before;
-      small : (l.before.above ≤ 2 ^ 37) × (l.before.below ≤ 2 ^ 37);
+      told : ToldBefore l.sense pushes pulls l.low l.before;
     }
 
 abbrev pub decreases-loop-low : goal.decreases-loop-low
