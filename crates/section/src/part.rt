@@ -26,7 +26,7 @@ pub trait Part {
         ensures { IsResultants sense (pushes self.now) (pulls self.now) (min level 4096) result };
 
     // The forces of `resultants` alone, which a kind may tell faster than with the moment: a search for the axis asks for them at each of its levels,
-    // and a bending question takes 1.3 times as long where a deck tells them by its resultants (docs/SPEED.md).
+    // and a bending question takes twice as long where a deck tells them by its resultants (docs/SPEED.md).
     fn forces(&self, sense: Sense, level: u16) -> Forces
         ensures { IsForces sense (pushes self.now) (pulls self.now) (min level 4096) result }
     {

@@ -5,6 +5,6 @@ use Rattle.section.proofs.block.Block.above.Goals as goal
 pub returns : goal.returns
 returns c =
     let s = c.args.self.now in
-    let b = simp (c.from.ensures, c.from-2.ensures, c.saturating_sub-near.ensures, c.saturating_sub-far.ensures, c.min-level.ensures) at c.between.ensures in
+    let b = simp (c.saturating_sub-near.ensures, c.saturating_sub-far.ensures, c.from-level.ensures, c.from-top.ensures, c.from.ensures, c.min.ensures) at c.between.ensures in
     let e = is_above s.top s.height s.strength _ _ b in
     record { force_is = e.0; moment_is = e.1 }
