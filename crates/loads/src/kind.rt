@@ -1,6 +1,7 @@
 // Moments or shears.
 ghost use Rattle.std.specs.Prelude.{◌≡◌};
 ghost use Rattle.loads.specs.Codes.{effect_kind};
+ghost use Rattle.loads.specs.Kinds.{same_kind};
 
 use faults::ReadFault;
 
@@ -8,6 +9,15 @@ use faults::ReadFault;
 pub enum EffectKind {
     Moment,
     Shear,
+}
+
+impl EffectKind {
+    // Whether the two are the same. Public, and so it stays beside `==`, which is derived and has no clause.
+    pub fn is(self, other: EffectKind) -> bool
+        ensures { result ≡ same_kind self other }
+    {
+        self == other
+    }
 }
 
 // The kind that a record names by this code.

@@ -17,7 +17,16 @@ pub enum LoadType {
     Ws,
 }
 
-// Where the type stands in a limit state's list of four.
+impl LoadType {
+    // Where the type stands in a limit state's list of four. Public, and so it stays beside `From`.
+    pub fn index(self) -> usize
+        ensures { result ≡ index self }
+    {
+        usize::from(self)
+    }
+}
+
+// The same as a conversion.
 impl From<LoadType> for usize {
     ghost from_gives = { λ t n. n ≡ index t };
 

@@ -10,10 +10,9 @@ use section::{BROADEST, GREATEST_YIELD, LEAST_YIELD, LOWEST};
 // The greatest breadth of a web.
 const BROADEST_WEB: u16 = 64;
 
-// By the numbers 1 to 4.
 #[derive(Clone, Copy, Debug, PartialEq, Eq)]
 pub enum Role {
-    TopFlange = 1,
+    TopFlange,
     Web,
     BottomFlange,
     Other,
@@ -44,7 +43,7 @@ impl From<Role> for u8 {
     ghost from_gives = { λ role n. n ≡ plates.role_number role };
 
     fn from(role: Role) -> u8 {
-        role as u8
+        role as u8 + 1
     }
 }
 
@@ -66,6 +65,13 @@ impl TryFrom<u8> for Role {
 }
 
 impl Role {
+    // Its number, 1 to 4. Public, and so it stays beside `From`.
+    pub fn number(self) -> u8
+        ensures { result ≡ plates.role_number self }
+    {
+        u8::from(self)
+    }
+
     // Whether the two may not both stand.
     pub(crate) fn clashes(self, other: Role) -> bool
         ensures { result ≡ plates.clash self other }

@@ -12,7 +12,7 @@ use crate::slot::Slot;
 use crate::slots::Slots;
 use section::LOWEST;
 
-#[derive(Drop)]
+#[derive(Clone, Copy)]
 pub struct Plates {
     pub(crate) slots: Slots<Plate, 24>,
     // the sum of breadth × height × yield over the standing plates, kept so that placing has no loop; modulo 2^64: no bound is asked of them here

@@ -11,7 +11,7 @@ use crate::slot::Slot;
 use crate::slots::Slots;
 use loads::EffectKind;
 
-#[derive(Drop)]
+#[derive(Clone, Copy)]
 pub struct Rows {
     pub(crate) slots: Slots<Row, 64>,
     // the sums of the standing rows of each kind, for each load type by its index; two fields, since a call asks for one kind's four, and both are added

@@ -1,17 +1,30 @@
 // The slots of one kind.
-ghost use Rattle.std.specs.Prelude.{◌≡◌, length, slice_set};
+ghost use Rattle.std.specs.Prelude.{◌≡◌, ⊤, length, slice_set};
 ghost use Rattle.sheet.specs.Slots.{empties, content};
 ghost use Rattle.sheet.specs.SlotNumbers.{FindsFree, FindsFull};
 
 use crate::slot::Slot;
 use faults::{SheetFault, SheetReason};
+use std::alloc::AllocError;
 
 // N slots, each of which holds one thing or nothing.
-#[derive(Drop)]
 pub struct Slots<T, const N: usize> {
     pub(crate) items: [Option<T>; N],
     ghost long: { length items ≡ N },
 }
+
+// By hand: over a ghost field `Clone` is derived only together with `Copy`, and not every `T` is `Copy`.
+impl<T: Copy, const N: usize> Clone for Slots<T, N> {
+    ghost is_clone = { λ x y. y ≡ x };
+
+    ghost is_infallible = { λ _. ⊤ };
+
+    fn clone(&self) -> Result<Slots<T, N>, AllocError> {
+        Ok(*self)
+    }
+}
+
+impl<T: Copy, const N: usize> Copy for Slots<T, N> {}
 
 impl<T: Copy, const N: usize> Slots<T, N> {
     pub(crate) fn empty() -> Slots<T, N>
