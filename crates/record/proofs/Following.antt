@@ -10,9 +10,10 @@ use Rattle.sheet.specs.Ledger.{Ledger, blank}
 use Rattle.command.specs.declared.commands.Command.{Command}
 use Rattle.command.specs.Bytes.{parsed}
 use Rattle.command.proofs.Shorter.{shorter}
+use Rattle.record.specs.declared.stepped.Stepped.{Stepped}
 use Rattle.record.specs.Lines.{fault_line, Wrote}
 use Rattle.record.specs.Runs.{Outcome}
-use Rattle.record.specs.Steps.{Obeys, Advances, step_text}
+use Rattle.record.specs.Steps.{Obeys, Advances, step_text, Report, MakesStep}
 use Rattle.record.specs.Transcripts.{Follows, Reads, ended, stepped, Transcript}
 
 -- from inside the record a step goes forward, and not past the end
@@ -26,6 +27,21 @@ forward L bytes place M next o h a = go (parsed (drop place bytes)) refl (MatchB
         let s = shorter (drop place bytes) p.0 p.1 e in
         let l = length-drop place bytes in
         (omega arith, omega arith)
+
+-- the outcome of a step with a long enough buffer on a record that is not too long
+pub record Taken (L : Ledger) (bytes : List ℕ) (place : ℕ) (before : List ℕ) (M : Ledger) (s : Stepped) (after : List ℕ) : Type 0 where
+  pub outcome : Outcome
+  pub advances : Advances L bytes place M s.place outcome
+  pub wrote : Wrote (step_text place outcome) before s.written after
+
+pub taken : {L : Ledger} {bytes : List ℕ} {place : ℕ} {before : List ℕ} {M : Ledger} {s : Stepped} {after : List ℕ} → length bytes ≤ 65536 → 64 ≤ length before → MakesStep L bytes place before M s after → Taken L bytes place before M s after
+taken {L} {bytes} {place} {before} {M} {s} {after} few room m =
+    let g = MatchBool-at_false _ _ (le-ltb (length before) 64 room) (MatchBool-at_false _ _ (le-ltb 65536 (length bytes) few) m.steps) in
+    record {
+      outcome = g.1;
+      advances = subst (λ n. Advances L bytes place M n g.1) (sym (m.place ∙ ap (λ (r : Report). r.next) g.3)) g.2;
+      wrote = subst (λ t. Wrote t before s.written after) (ap (λ (r : Report). r.text) g.3) m.wrote;
+    }
 
 -- the line is the front of the buffer
 pub front : {text before after : List ℕ} {n : ℕ} → Wrote text before n after → take n after ≡ text

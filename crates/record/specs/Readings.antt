@@ -6,7 +6,8 @@ use Rattle.sheet.specs.Ledger.{ledger, blank}
 use Rattle.record.specs.declared.reading.Reading.{Reading}
 use Rattle.record.specs.Lines.{Wrote}
 use Rattle.record.specs.Runs.{Outcome}
-use Rattle.record.specs.Steps.{Advances, step_text}
+use Rattle.record.specs.declared.stepped.Stepped.{Stepped}
+use Rattle.record.specs.Steps.{Advances, MakesStep, step_text}
 
 -- at the record's first byte, with a new sheet
 pub record Starts (bytes : List ℕ) (r : Reading) : Type 0 where
@@ -19,10 +20,14 @@ abbrev pub Opens : List ℕ → Result Reading ReadFault → Type 0
 Opens bytes (Ok r) = (length bytes ≤ 65536) × Starts bytes r
 Opens bytes (Err f) = (65536 < length bytes) × (f ≡ TooLong)
 
--- one command more, from inside the record: its line of n bytes at the front of the buffer, the rest untouched, and the place behind it
+-- one step more, from inside the record: that of a call that makes a step there, with its line of n bytes at the front of the buffer, the rest untouched, and the place behind it
 pub record ReadsLine (r : Reading) (before : List ℕ) (n : ℕ) (s : Reading) (after : List ℕ) : Type 0 where
   pub inside : r.place < length r.bytes.now
   pub reads : s.bytes.now ≡ r.bytes.now
+  pub step : Stepped
+  pub makes : MakesStep (ledger r.sheet) r.bytes.now r.place before (ledger s.sheet) step after
+  pub place : s.place ≡ step.place
+  pub line : n ≡ step.written
   pub outcome : Outcome
   pub advances : Advances (ledger r.sheet) r.bytes.now r.place (ledger s.sheet) s.place outcome
   pub forward : r.place < s.place

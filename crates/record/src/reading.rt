@@ -2,7 +2,7 @@
 ghost use Rattle.std.specs.Prelude.{◌≤◌, length};
 
 use crate::limits::LONGEST;
-use crate::stepping::go_on;
+use crate::stepping::step;
 use faults::ReadFault;
 use sheet::Sheet;
 
@@ -41,7 +41,7 @@ impl<'a> Reading<'a> {
         if self.place == self.bytes.len() {
             return None;
         }
-        let stepped = go_on(&mut self.sheet, self.bytes, self.place, line);
+        let stepped = step(&mut self.sheet, self.bytes, self.place, line);
         self.place = stepped.place;
         Some(stepped.written)
     }

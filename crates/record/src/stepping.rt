@@ -42,8 +42,8 @@ fn halted(place: usize, fault: ReadFault) -> Stepped
 }
 
 // A step of a record that is not too long, with room for its line. Sheet, bytes and place one by one: `step` is lent a sheet and so has no `Reading`,
-// and a struct of borrows for these two calls would be no plainer.
-pub(crate) fn go_on(sheet: &mut Sheet, bytes: &[u8], place: usize, line: &mut [u8; 64]) -> Stepped
+// and a struct of borrows for this call would be no plainer.
+fn go_on(sheet: &mut Sheet, bytes: &[u8], place: usize, line: &mut [u8; 64]) -> Stepped
     ensures long { length line.new ≡ 64 }
     ensures goes_on { GoesOn (ledger sheet.old) bytes.now place line.old (ledger sheet.new) result line.new }
 {
