@@ -1,7 +1,5 @@
 // How many calls were compared, and how many agreed.
 use crate::sort::Sort;
-use std::alloc::{AllocError, Global};
-use std::collections::BTreeMap;
 use std::io;
 
 #[derive(Clone, Copy, Debug, Default, PartialEq, Eq)]
@@ -23,27 +21,21 @@ impl Count {
     }
 }
 
-// Of the calls of each sort, of all of them, and of those that were made once more in a list.
-#[derive(Drop)]
+// Of the calls of each sort, of all of them, and of those that were made once more in a list. The sorts' counts lie in an array, in the order of the
+// sorts: a map would want memory, which may be lacking.
+#[derive(Clone, Copy, Default)]
 pub(crate) struct Tally {
-    sorts: BTreeMap<Sort, Count>,
+    sorts: [Count; 13],
     all: Count,
     listed: Count,
 }
 
 impl Tally {
-    pub(crate) fn new(heap: Global) -> Tally {
-        Tally {
-            sorts: BTreeMap::new(heap),
-            all: Count::default(),
-            listed: Count::default(),
+    pub(crate) fn add(&mut self, sort: Sort, agrees: bool) {
+        if let Some(count) = self.sorts.get_mut(sort as usize) {
+            count.add(agrees);
         }
-    }
-
-    pub(crate) fn add(&mut self, sort: Sort, agrees: bool) -> Result<(), AllocError> {
-        self.sorts.entry(sort)?.or_default().add(agrees);
         self.all.add(agrees);
-        Ok(())
     }
 
     pub(crate) fn add_listed(&mut self, agrees: bool) {
@@ -56,9 +48,8 @@ impl Tally {
 
     pub(crate) fn print(&self, rt: &impl Print) -> io::Result<()> {
         rt.println("call        compared    agreed")?;
-        for sort in Sort::ALL {
-            let count = self.sorts.get(&sort).copied().unwrap_or_default();
-            print_count(rt, sort.name(), count)?;
+        for (sort, count) in Sort::ALL.iter().zip(self.sorts.iter()) {
+            print_count(rt, sort.name(), *count)?;
         }
         print_count(rt, "all", self.all)?;
         print_count(rt, "in lists", self.listed)
