@@ -123,10 +123,13 @@ forces_alike xs inside level above total a t s = go s
     go Sagging = record { above_is = a; below_is = below }
     go Hogging = record { above_is = a; below_is = below }
 
--- and the moment is the same in either sense
-pub moment_alike : (f : ℕ → ℕ) (k : ℕ) (r : Forces) (m : ℕ) (s : Sense) → IsForces s f f k r → m ≡ moment_at 4096 f f k → IsResultants s f f k (record { above = r.above; below = r.below; moment = m })
-moment_alike f k r m Sagging is e = record { above_is = is.above_is; below_is = is.below_is; moment_is = e }
-moment_alike f k r m Hogging is e = record { above_is = is.above_is; below_is = is.below_is; moment_is = e }
+-- and the moment is the same in either sense; forces and moment are each given at a level that equals this one, however it is written
+pub moment_alike : (f : ℕ → ℕ) (k : ℕ) (r : Forces) (m : ℕ) (s : Sense) → (i : ℕ) → IsForces s f f i r → i ≡ k → (j : ℕ) → m ≡ moment_at 4096 f f j → j ≡ k → IsResultants s f f k (record { above = r.above; below = r.below; moment = m })
+moment_alike f k r m s i is at_i j e at_j = go s (subst (λ l. IsForces s f f l r) at_i is) (subst (λ l. m ≡ moment_at 4096 f f l) at_j e)
+  where
+    go : (s : Sense) → IsForces s f f k r → m ≡ moment_at 4096 f f k → IsResultants s f f k (record { above = r.above; below = r.below; moment = m })
+    go Sagging is e = record { above_is = is.above_is; below_is = is.below_is; moment_is = e }
+    go Hogging is e = record { above_is = is.above_is; below_is = is.below_is; moment_is = e }
 
 -- nor does it pass 2 ^ 50
 pub moment_small : (xs : List (Option Plate)) → Light xs → Within xs → (k : ℕ) → k ≤ 4096 → moment_at 4096 (plate_strips xs) (plate_strips xs) k ≤ 2 ^ 50

@@ -24,4 +24,6 @@ returns c =
     let m = sum_from_yields_List c.map.result c.sum-moment.result c.sum-moment.ensures.ran
     (YieldsList-from_map _ (measured_moment p.measures k) (YieldsList-from_range 0 24 (length xs) c.map.ensures.source (sym p.slots.long)) c.map.ensures.closure (λ x r q k. search (rules, tests)))
     ∙ every_moment xs p.measures within p.measured k (omega (arith, c.min-level.ensures)) in
-    moment_alike (plate_strips xs) (min c.args.level 4096) c.forces-forces.result c.sum-moment.result c.args.sense c.forces-forces.ensures (rw c.min-level.ensures at m)
+    moment_alike (plate_strips xs) (min c.args.level 4096) c.forces-forces.result c.sum-moment.result c.args.sense
+    _ c.forces-forces.ensures (omega arith)
+    k m (omega (arith, c.min-level.ensures))
